@@ -1,0 +1,9 @@
+pub mod Limits
+pub mod Lists
+pub mod Reading
+pub mod Row
+pub mod Labels
+pub mod Record
+pub mod Edits
+pub mod Query
+pub mod Vector

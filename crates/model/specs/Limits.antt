@@ -1,0 +1,21 @@
+-- 01's limits. Assumes nothing.
+use Prim.Native.Nat.{ℕ}
+
+abbrev pub maxSeries : ℕ
+maxSeries = 512
+
+abbrev pub maxPoints : ℕ
+maxPoints = 1024
+
+abbrev pub maxTags : ℕ
+maxTags = 32
+
+-- the bytes of a name, a key or a value, and of a label of a list
+abbrev pub maxField : ℕ
+maxField = 255
+
+abbrev pub maxListed : ℕ
+maxListed = 32
+
+abbrev pub maxLabelBytes : ℕ
+maxLabelBytes = 65535

@@ -1,0 +1,120 @@
+-- Sides, a query taken from bytes, and the key of a series under its matching. Assumes nothing.
+use Prim.Native.Nat.{ℕ, zero, suc}
+use mathlib.Core.Bool.{Bool, true, false, _&&_, _||_, cond}
+use mathlib.Core.Option.{Option, none, some}
+use mathlib.Core.List.{List, [], _∷_}
+use lib.Dec.{leb, eqb}
+use Rattle.operator.specs.declared.Operator.{Operator}
+use Rattle.operator.specs.Operators.{operatorOf, isCarried}
+use Rattle.model.specs.Limits.{maxListed}
+use Rattle.model.specs.Lists.{isEmpty}
+use Rattle.model.specs.Labels.{Tag, Labels, sameTags}
+use Rattle.model.specs.Record.{Field, short, field, readField, onField}
+use Rattle.model.specs.Edits.{Names, tagsOn, tagsIgnoring}
+
+pub data Side : Type 0 where
+  left right : Side
+
+pub data Matching : Type 0 where
+  all on ignoring : Matching
+
+-- `group left` is group_left: the many side is the left one
+pub data Join : Type 0 where
+  oneToOne : Join
+  group : Side → Join
+
+pub record Query : Type 0 where
+  pub operator : Operator
+  pub matching : Matching
+  pub join : Join
+  pub keepNames : Bool
+  pub bool : Bool
+  pub matchingList : Names
+  pub joinList : Names
+
+-- 01: The key is the tags in the `on` list, or outside the `ignoring` list, or all; the name is never in it, `on(__name__)` included.
+unfoldable pub keyOf : Matching → Names → List Tag → List Tag
+keyOf all ns ts = ts
+keyOf on ns ts = tagsOn ns ts
+keyOf ignoring ns ts = tagsIgnoring ns ts
+
+unfoldable pub sameKey : Query → Labels → Labels → Bool
+sameKey q l m =
+    sameTags (keyOf (q .matching) (q .matchingList) (l .tags)) (keyOf (q .matching) (q .matchingList) (m .tags))
+
+-- taking
+
+-- 01: 1, operator above 18, or 2 or 8; then 2, the query otherwise not as above, bytes left over included.
+pub data TakenQuery : Type 0 where
+  query : Query → TakenQuery
+  badOperator : TakenQuery
+  malformed : TakenQuery
+
+-- 01: matching byte (0 none, 1 on, 2 ignoring)
+abbrev pub matchingOf : ℕ → Matching
+matchingOf m = cond (eqb m 0) all (cond (eqb m 1) on ignoring)
+
+-- 01: join byte (0 one-to-one, 1 group_left, 2 group_right, 3 many-to-many, run as 0)
+abbrev pub joinOf : ℕ → Join
+joinOf j = cond (eqb j 1) (group left) (cond (eqb j 2) (group right) oneToOne)
+
+-- labels, and what follows them
+pub data Listed : Type 0 where
+  notListed : Listed
+  listed : Names → List ℕ → Listed
+
+-- 01: each a length byte 1 to 255 and its bytes
+abbrev pub withName : List ℕ → Listed → Listed
+withName [] l = notListed
+withName (x ∷ xs) notListed = notListed
+withName (x ∷ xs) (listed ns rest) = listed ((x ∷ xs) ∷ ns) rest
+
+unfoldable pub namesIn : ℕ → List ℕ → Listed
+namesIn zero s = listed [] s
+namesIn (suc n) s = onField (readField s) notListed (λ x rest. withName x (namesIn n rest))
+
+-- 01: A list is a count byte 0 to 32, then labels.
+unfoldable pub listIn : List ℕ → Listed
+listIn [] = notListed
+listIn (n ∷ s) = cond (leb n maxListed) (namesIn n s) notListed
+
+abbrev pub onListed : {A : Type 0} → Listed → A → (Names → List ℕ → A) → A
+onListed notListed a f = a
+onListed (listed ns rest) a f = f ns rest
+
+abbrev pub isMatched : Matching → Bool
+isMatched all = false
+isMatched on = true
+isMatched ignoring = true
+
+abbrev pub isGroup : Join → Bool
+isGroup oneToOne = false
+isGroup (group s) = true
+
+-- 01: Matching 0 has an empty matching list, joins 0 and 3 an empty join list.
+abbrev pub fitting : Query → Bool
+fitting q = (isMatched (q .matching) || isEmpty (q .matchingList)) && (isGroup (q .join) || isEmpty (q .joinList))
+
+abbrev pub ended : Query → List ℕ → TakenQuery
+ended q rest = cond (isEmpty rest && fitting q) (query q) malformed
+
+-- 01: flag byte (0 neither, 1 keep names, 2 bool, 3 both); matching list; join list
+abbrev pub withLists : Operator → ℕ → ℕ → ℕ → List ℕ → TakenQuery
+withLists o m j f s =
+    onListed (listIn s) malformed (λ ns s₁. onListed (listIn s₁) malformed (λ js s₂.
+    ended (record { operator = o; matching = matchingOf m; join = joinOf j; keepNames = eqb f 1 || eqb f 3; bool = leb 2 f; matchingList = ns; joinList = js }) s₂))
+
+abbrev pub modified : Operator → List ℕ → TakenQuery
+modified o [] = malformed
+modified o (m ∷ []) = malformed
+modified o (m ∷ j ∷ []) = malformed
+modified o (m ∷ j ∷ f ∷ s) = cond (leb m 2 && (leb j 3 && leb f 3)) (withLists o m j f s) malformed
+
+abbrev pub asked : Option Operator → List ℕ → TakenQuery
+asked none s = badOperator
+asked (some o) s = cond (isCarried o) (modified o s) badOperator
+
+-- 01: A query is: operator byte; matching byte; join byte; flag byte; matching list; join list.
+unfoldable pub takeQuery : List ℕ → TakenQuery
+takeQuery [] = malformed
+takeQuery (o ∷ s) = asked (operatorOf o) s

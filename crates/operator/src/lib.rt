@@ -1,0 +1,274 @@
+// Operators, numbered in the Rust's order: their tests, and the constant table that a query's operator byte indexes.
+ghost use mathlib.Core.Path.{_≡_};
+ghost use Rattle.operator.specs.Operators.{codedOf, isComparison, isLogicalOp, isCarried};
+ghost use Rattle.operator.specs.Table.{rowOf};
+
+pub enum Operator {
+    Add,
+    And,
+    Atan2,
+    Default,
+    Div,
+    Eql,
+    Mod,
+    Mul,
+    Pow,
+    Sub,
+    Gt,
+    Gte,
+    If,
+    IfNot,
+    Lt,
+    Lte,
+    NotEq,
+    Or,
+    Unless,
+}
+
+// What a query's operator byte stands for.
+pub enum Coded {
+    Known(Operator),
+    Unknown,
+}
+
+impl Operator {
+    // The label under which a series' name is listed, looked up and set.
+    pub const METRIC_NAME: [u8; 8] = [95, 95, 110, 97, 109, 101, 95, 95];
+
+    pub const MAX_SERIES: usize = 512;
+
+    pub const MAX_POINTS: usize = 1024;
+
+    pub const MAX_TAGS: usize = 32;
+
+    // The bytes of a name, a key or a value.
+    pub const MAX_FIELD: usize = 255;
+
+    pub const MAX_LABEL_BYTES: usize = 65535;
+
+    pub fn from_byte(b: u8) -> Coded
+        ensures { λ r. ⌜ r ≡ codedOf b ⌝ }
+    {
+        match b {
+            0 => Coded::Known(Operator::Add),
+            1 => Coded::Known(Operator::And),
+            2 => Coded::Known(Operator::Atan2),
+            3 => Coded::Known(Operator::Default),
+            4 => Coded::Known(Operator::Div),
+            5 => Coded::Known(Operator::Eql),
+            6 => Coded::Known(Operator::Mod),
+            7 => Coded::Known(Operator::Mul),
+            8 => Coded::Known(Operator::Pow),
+            9 => Coded::Known(Operator::Sub),
+            10 => Coded::Known(Operator::Gt),
+            11 => Coded::Known(Operator::Gte),
+            12 => Coded::Known(Operator::If),
+            13 => Coded::Known(Operator::IfNot),
+            14 => Coded::Known(Operator::Lt),
+            15 => Coded::Known(Operator::Lte),
+            16 => Coded::Known(Operator::NotEq),
+            17 => Coded::Known(Operator::Or),
+            18 => Coded::Known(Operator::Unless),
+            _ => Coded::Unknown,
+        }
+    }
+
+    pub fn is_comparison(self) -> bool
+        ensures { λ r. ⌜ r ≡ isComparison self ⌝ }
+    {
+        match self {
+            Operator::Eql
+            | Operator::Gt
+            | Operator::Gte
+            | Operator::Lt
+            | Operator::Lte
+            | Operator::NotEq => true,
+            _ => false,
+        }
+    }
+
+    pub fn is_logical_op(self) -> bool
+        ensures { λ r. ⌜ r ≡ isLogicalOp self ⌝ }
+    {
+        match self {
+            Operator::And
+            | Operator::Default
+            | Operator::If
+            | Operator::IfNot
+            | Operator::Or
+            | Operator::Unless => true,
+            _ => false,
+        }
+    }
+
+    // Whether calls run the operator: no quote takes a power or an angle.
+    pub fn is_carried(self) -> bool
+        ensures { λ r. ⌜ r ≡ isCarried self ⌝ }
+    {
+        match self {
+            Operator::Atan2 | Operator::Pow => false,
+            _ => true,
+        }
+    }
+}
+
+// A row of the table. The spelling is the first `length` bytes; zeros stand behind it.
+pub struct OperatorRow {
+    pub spelling: [u8; 7],
+    pub length: usize,
+    pub comparison: bool,
+    pub logical: bool,
+    pub carried: bool,
+}
+
+const OPERATORS: [OperatorRow; 19] = [
+    OperatorRow {
+        spelling: [43, 0, 0, 0, 0, 0, 0],
+        length: 1,
+        comparison: false,
+        logical: false,
+        carried: true,
+    },
+    OperatorRow {
+        spelling: [97, 110, 100, 0, 0, 0, 0],
+        length: 3,
+        comparison: false,
+        logical: true,
+        carried: true,
+    },
+    OperatorRow {
+        spelling: [97, 116, 97, 110, 50, 0, 0],
+        length: 5,
+        comparison: false,
+        logical: false,
+        carried: false,
+    },
+    OperatorRow {
+        spelling: [100, 101, 102, 97, 117, 108, 116],
+        length: 7,
+        comparison: false,
+        logical: true,
+        carried: true,
+    },
+    OperatorRow {
+        spelling: [47, 0, 0, 0, 0, 0, 0],
+        length: 1,
+        comparison: false,
+        logical: false,
+        carried: true,
+    },
+    OperatorRow {
+        spelling: [61, 61, 0, 0, 0, 0, 0],
+        length: 2,
+        comparison: true,
+        logical: false,
+        carried: true,
+    },
+    OperatorRow {
+        spelling: [37, 0, 0, 0, 0, 0, 0],
+        length: 1,
+        comparison: false,
+        logical: false,
+        carried: true,
+    },
+    OperatorRow {
+        spelling: [42, 0, 0, 0, 0, 0, 0],
+        length: 1,
+        comparison: false,
+        logical: false,
+        carried: true,
+    },
+    OperatorRow {
+        spelling: [94, 0, 0, 0, 0, 0, 0],
+        length: 1,
+        comparison: false,
+        logical: false,
+        carried: false,
+    },
+    OperatorRow {
+        spelling: [45, 0, 0, 0, 0, 0, 0],
+        length: 1,
+        comparison: false,
+        logical: false,
+        carried: true,
+    },
+    OperatorRow {
+        spelling: [62, 0, 0, 0, 0, 0, 0],
+        length: 1,
+        comparison: true,
+        logical: false,
+        carried: true,
+    },
+    OperatorRow {
+        spelling: [62, 61, 0, 0, 0, 0, 0],
+        length: 2,
+        comparison: true,
+        logical: false,
+        carried: true,
+    },
+    OperatorRow {
+        spelling: [105, 102, 0, 0, 0, 0, 0],
+        length: 2,
+        comparison: false,
+        logical: true,
+        carried: true,
+    },
+    OperatorRow {
+        spelling: [105, 102, 110, 111, 116, 0, 0],
+        length: 5,
+        comparison: false,
+        logical: true,
+        carried: true,
+    },
+    OperatorRow {
+        spelling: [60, 0, 0, 0, 0, 0, 0],
+        length: 1,
+        comparison: true,
+        logical: false,
+        carried: true,
+    },
+    OperatorRow {
+        spelling: [60, 61, 0, 0, 0, 0, 0],
+        length: 2,
+        comparison: true,
+        logical: false,
+        carried: true,
+    },
+    OperatorRow {
+        spelling: [33, 61, 0, 0, 0, 0, 0],
+        length: 2,
+        comparison: true,
+        logical: false,
+        carried: true,
+    },
+    OperatorRow {
+        spelling: [111, 114, 0, 0, 0, 0, 0],
+        length: 2,
+        comparison: false,
+        logical: true,
+        carried: true,
+    },
+    OperatorRow {
+        spelling: [117, 110, 108, 101, 115, 115, 0],
+        length: 6,
+        comparison: false,
+        logical: true,
+        carried: true,
+    },
+];
+
+const UNLISTED: OperatorRow = OperatorRow {
+    spelling: [0, 0, 0, 0, 0, 0, 0],
+    length: 0,
+    comparison: false,
+    logical: false,
+    carried: false,
+};
+
+// The table's row for an operator byte, and a row that claims nothing for a byte above 18.
+pub fn operator_row(b: u8) -> OperatorRow
+    ensures { λ r. ⌜ r ≡ rowOf b ⌝ }
+{
+    let i = b as usize;
+    if i < 19 { OPERATORS[i] } else { UNLISTED }
+}
