@@ -1,0 +1,7 @@
+pub mod Places
+pub mod Events
+pub mod Rules
+pub mod Binop
+pub mod Call
+pub mod Computing
+pub mod Laws
