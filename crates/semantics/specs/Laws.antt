@@ -1,2 +1,3 @@
-pub mod Lists
 pub mod Order
+pub mod Renumber
+pub mod Sound

@@ -12,7 +12,7 @@ use Rattle.model.specs.Vector.{Series}
 use Rattle.semantics.specs.Places.{Place, Placed, numbered, placed, earlier, before, Rank, rankBefore}
 use Rattle.semantics.specs.Events.{Ranked, Event, mark, Rule, ofKey, producedBy, emission}
 use Rattle.semantics.specs.Rules.{Plain, plain, onSide, other, ofSide, pairs, groupOf, groups, joined, hasReadings, dropping}
-use Rattle.semantics.specs.Laws.Lists.{All-map, All-each, All-append, All-on-map, All-keep, All-gather}
+use Rattle.model.specs.Laws.Lists.{All-map, All-each, All-append, All-on-map, All-keep, All-gather}
 
 ltb-irrefl : (n : ℕ) → ltb n n ≡ false
 ltb-irrefl n = le-ltb n n (omega arith)
