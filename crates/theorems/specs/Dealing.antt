@@ -1,0 +1,6 @@
+pub mod Merging
+pub mod Numbers
+pub mod Fallback
+pub mod Verdicts
+pub mod Fitting
+pub mod Faults

@@ -1,0 +1,233 @@
+-- Demand 3 proved: the claim is in Claims.Partition. Assumes nothing.
+use Prim.Native.Nat.{ℕ, zero, suc, _+_, _≤_, _<_}
+use mathlib.Core.Path.{_≡_, refl, sym, ap, _∙_}
+use mathlib.Core.Bool.{Bool, true, false, not, cond, _||_, false≢true}
+use mathlib.Core.Option.{Option, none, some}
+use mathlib.Core.List.{List, [], _∷_, _++_, map}
+use native.Mathlib.Omega.{arith}
+use lib.Dec.{eqb}
+use lib.ListN.{length, length-append}
+use borrow.Author.Tests.{eq-eqb, eqb-true}
+use Rattle.model.specs.Lists.{cases, All}
+use Rattle.model.specs.Labels.{Bytes}
+use Rattle.model.specs.Record.{encode}
+use Rattle.model.specs.Query.{Query, TakenQuery, query, badOperator, malformed, takeQuery, Side, left, right}
+use Rattle.model.specs.Vector.{Series, Shape, Vector, TakenVector, vector, faulty, takeVector, labelPart, labelBytes, readingsOf, Readings, GoodSeries, Valid}
+use Rattle.model.specs.Laws.Lists.{map-map}
+use Rattle.model.specs.Laws.Vector.{take-valid, taken-is}
+use Rattle.semantics.specs.Places.{Rank, rankBefore}
+use Rattle.semantics.specs.Events.{Ranked, Duplicate, Verdict, answer, duplicate}
+use Rattle.semantics.specs.Call.{Outcome, refused, answered, call, running, concluded, told, verdict, fit, sameShape, onVector, onQuery}
+use Rattle.semantics.specs.Laws.Order.{Rising}
+use Rattle.semantics.specs.Laws.Renumber.{Renumber, ranked-moved, rank-moved, verdict-moved}
+use Rattle.theorems.specs.Claims.Dealing.{Deal, secondPile, pick, pile, wholePlaces, Dealt, weave, earlierOf, mergedVerdict}
+use Rattle.theorems.specs.Claims.Partition.{Taken, callOn, pileCall, isRefused, refusedOtherwise, written, seriesIn, firstDuplicate, DuplicateOf, MergedAnswer, Splits, Partition, Sides, HasSides}
+use Rattle.theorems.specs.Dealing.Faults.{FaultFrom3To5, take-fault}
+use Rattle.theorems.specs.Dealing.Verdicts.{pileVerdict, verdicts, verdict-rising}
+use Rattle.theorems.specs.Dealing.Fitting.{Fits, fits-fit, Way, fine, too-big, no-room, fit-way, length-weave, bytes-weave, fits-weave}
+
+series-moved-same : (ρ : Renumber) (l : List (Ranked Rank Series)) → seriesIn (map (ranked-moved (rank-moved ρ) (λ s. s)) l) ≡ seriesIn l
+series-moved-same ρ l = map-map _ _ l
+
+not-false : {X : Type 0} → true ≡ false → X
+not-false e = absurd (false≢true (sym e))
+
+module _ (a b : ℕ) (shape : Shape) (ρ₁ ρ₂ : Renumber) where
+  abbrev Claim : Verdict → Verdict → Outcome → Type 0
+  Claim v w whole = Splits a b shape ρ₁ ρ₂ v w whole (concluded a b shape v) (concluded a b shape w)
+
+  module _ (l m : List (Ranked Rank Series)) where
+    abbrev firsts : List (Ranked Rank Series)
+    firsts = map (ranked-moved (rank-moved ρ₁) (λ s. s)) l
+
+    abbrev seconds : List (Ranked Rank Series)
+    seconds = map (ranked-moved (rank-moved ρ₂) (λ s. s)) m
+
+    abbrev merged : List (Ranked Rank Series)
+    merged = weave rankBefore firsts seconds
+
+    -- all three answer
+    all-answer : Rising rankBefore merged → Fits a b shape (seriesIn merged) → Claim (answer l) (answer m) (fit a b shape (seriesIn merged))
+    all-answer order h =
+        let f = fits-weave a b shape firsts seconds h in
+        let e₁ : fit a b shape (seriesIn l) ≡ written shape (seriesIn firsts) = sym (ap (fit a b shape) (series-moved-same ρ₁ l)) ∙ fits-fit a b shape (seriesIn firsts) (f .0) in
+        let e₂ : fit a b shape (seriesIn m) ≡ written shape (seriesIn seconds) = sym (ap (fit a b shape) (series-moved-same ρ₂ m)) ∙ fits-fit a b shape (seriesIn seconds) (f .1) in
+        let e₃ = fits-fit a b shape (seriesIn merged) h in
+        record {
+          first-call = refl;
+          second-call = refl;
+          together = rw (e₁, e₂, e₃);
+          duplicates = λ r. absurd (false≢true (rw e₃ at r));
+          answers = λ r. record {
+            l = firsts;
+            m = seconds;
+            firsts = refl;
+            seconds = refl;
+            first-is = e₁;
+            second-is = e₂;
+            whole-is = e₃;
+            order = order;
+            count = length-weave firsts seconds;
+            bytes = bytes-weave firsts seconds;
+          };
+        }
+
+    fitted : Rising rankBefore merged → Way a b shape (seriesIn merged) (fit a b shape (seriesIn merged)) → refusedOtherwise (fit a b shape (seriesIn merged)) ≡ false
+        → Claim (answer l) (answer m) (fit a b shape (seriesIn merged))
+    fitted order (fine h) r = all-answer order h
+    fitted order (too-big e) r = not-false (rw e at r)
+    fitted order (no-room e) r = not-false (rw e at r)
+
+  one-refused : (o : Bool) → true ≡ (o || true)
+  one-refused true = refl
+  one-refused false = refl
+
+  splits : (v w : Verdict) → ((k : List (Ranked Rank Series)) → mergedVerdict (verdict-moved ρ₁ v) (verdict-moved ρ₂ w) ≡ answer k → Rising rankBefore k)
+      → refusedOtherwise (concluded a b shape (mergedVerdict (verdict-moved ρ₁ v) (verdict-moved ρ₂ w))) ≡ false
+      → Claim v w (concluded a b shape (mergedVerdict (verdict-moved ρ₁ v) (verdict-moved ρ₂ w)))
+  splits (answer l) (answer m) up r = fitted l m (up _ refl) (fit-way a b shape (seriesIn (merged l m))) r
+  splits (answer l) (duplicate y) up r =
+      record {
+        first-call = refl;
+        second-call = refl;
+        together = one-refused (isRefused (fit a b shape (seriesIn l)));
+        duplicates = λ e. record { which = _; first = refl; is = refl };
+        answers = λ e. not-false e;
+      }
+  splits (duplicate x) (answer m) up r =
+      record {
+        first-call = refl;
+        second-call = refl;
+        together = refl;
+        duplicates = λ e. record { which = _; first = refl; is = refl };
+        answers = λ e. not-false e;
+      }
+  splits (duplicate x) (duplicate y) up r =
+      record {
+        first-call = refl;
+        second-call = refl;
+        together = refl;
+        duplicates = λ e. record { which = _; first = refl; is = refl };
+        answers = λ e. not-false e;
+      }
+
+-- a call on taken sides
+
+same-shape : (shape : Shape) → sameShape shape shape ≡ true
+same-shape shape = eq-eqb (shape .points) (shape .points) refl
+
+run-taken : (a b : ℕ) (q : Query) (shape : Shape) (ls rs : List Series)
+    → running a b q (record { shape = shape; series = ls }) (record { shape = shape; series = rs }) ≡ concluded a b shape (verdict q ls rs)
+unfolding running
+run-taken a b q shape ls rs = rw (same-shape shape)
+
+pub taken-call : (s ll lr rl rr : List ℕ) (q : Query) (shape : Shape) (ls rs : List Series) → Taken s ll lr rl rr q shape ls rs → (a b : ℕ)
+    → call s ll lr rl rr a b ≡ concluded a b shape (verdict q ls rs)
+unfolding call
+taken-call s ll lr rl rr q shape ls rs t a b = rw (t .asked, t .lefts, t .rights) (run-taken a b q shape ls rs)
+
+-- the piles' sides are valid, so their encodings are taken
+
+pick-shorter : (d : ℕ → Bool) (bs : List Series) → length (pick d bs) ≤ length bs
+pick-shorter d [] = omega arith
+pick-shorter d (b ∷ bs) =
+    let h = pick-shorter (λ i. d (suc i)) bs in
+    cases (d zero) (λ e. rw e (omega (arith, h))) (λ e. rw e (omega (arith, h)))
+
+bytes-cons : (b : Series) (bs : List Series) → length (labelBytes (b ∷ bs)) ≡ length (encode (b .labels)) + length (labelBytes bs)
+unfolding labelBytes
+bytes-cons b bs = length-append (encode (b .labels)) (labelBytes bs)
+
+pick-bytes : (d : ℕ → Bool) (bs : List Series) → length (labelBytes (pick d bs)) ≤ length (labelBytes bs)
+pick-bytes d [] = omega arith
+pick-bytes d (b ∷ bs) =
+    let h = pick-bytes (λ i. d (suc i)) bs in
+    cases (d zero)
+    (λ e. rw e (omega (arith, h, bytes-cons b bs, bytes-cons b (pick (λ i. d (suc i)) bs))))
+    (λ e. rw e (omega (arith, h, bytes-cons b bs)))
+
+All-pick : (P : Series → Type 0) (d : ℕ → Bool) (bs : List Series) → All P bs → All P (pick d bs)
+All-pick P d [] a = tt
+All-pick P d (b ∷ bs) a = cases (d zero) (λ e. rw e (a .0, All-pick P (λ i. d (suc i)) bs (a .1))) (λ e. rw e (All-pick P (λ i. d (suc i)) bs (a .1)))
+
+pick-valid : (shape : Shape) (d : ℕ → Bool) (bs : List Series) → Valid (record { shape = shape; series = bs }) → Valid (record { shape = shape; series = pick d bs })
+pick-valid shape d bs v =
+    record {
+      few = omega (arith, pick-shorter d bs, v .few);
+      points = v .points;
+      bytes = omega (arith, pick-bytes d bs, v .bytes);
+      series = All-pick (GoodSeries (shape .points)) d bs (v .series);
+    }
+
+module _ (s ll lr rl rr : List ℕ) (bl : Bytes ll) (wl : Readings lr) (br : Bytes rl) (wr : Readings rr) (q : Query) (shape : Shape) (ls rs : List Series) (t : Taken s ll lr rl rr q shape ls rs) where
+  pub left-valid : Valid (record { shape = shape; series = ls })
+  left-valid = taken-is 0 ll lr _ bl wl (t .lefts) .valid
+
+  pub right-valid : Valid (record { shape = shape; series = rs })
+  right-valid = taken-is 1 rl rr _ br wr (t .rights) .valid
+
+  pile-taken : (deal : Deal)
+      → Taken s (labelPart shape (pile deal left ls)) (readingsOf (pile deal left ls)) (labelPart shape (pile deal right rs)) (readingsOf (pile deal right rs)) q shape (pile deal left ls) (pile deal right rs)
+  pile-taken deal =
+      record {
+        asked = t .asked;
+        lefts = take-valid 0 (record { shape = shape; series = pile deal left ls }) (pick-valid shape _ ls left-valid);
+        rights = take-valid 1 (record { shape = shape; series = pile deal right rs }) (pick-valid shape _ rs right-valid);
+      }
+
+pub partition : Partition
+partition s ll lr rl rr bl wl br wr q shape ls rs t deal d a b r =
+    let whole = taken-call s ll lr rl rr q shape ls rs t a b ∙ ap (concluded a b shape) (verdicts q deal ls rs d) in
+    rw (
+      whole,
+      taken-call s _ _ _ _ q shape _ _ (pile-taken s ll lr rl rr bl wl br wr q shape ls rs t deal) a b,
+      taken-call s _ _ _ _ q shape _ _ (pile-taken s ll lr rl rr bl wl br wr q shape ls rs t (secondPile deal)) a b,
+    )
+    (splits a b shape (wholePlaces deal ls rs) (wholePlaces (secondPile deal) ls rs) (pileVerdict q deal ls rs) (pileVerdict q (secondPile deal) ls rs)
+    (λ k e. verdict-rising q ls rs k (verdicts q deal ls rs d ∙ e)) (rw whole at r))
+
+-- a call with no sides of one shape is refused by a number from 1 to 6
+
+unequal : (m n : ℕ) → m < n → eqb m n ≡ false
+unequal m n h = cases (eqb m n) (λ e. absurd (let z = eqb-true m n e in omega (arith, z))) (λ e. e)
+
+module _ (s ll lr rl rr : List ℕ) (a b : ℕ) where
+  shaped : (q : Query) (l r : Vector) → takeQuery s ≡ query q → takeVector 0 ll lr ≡ vector l → takeVector 1 rl rr ≡ vector r
+      → refusedOtherwise (running a b q l r) ≡ false → Sides s ll lr rl rr
+  unfolding running
+  shaped q l r hq hl hr e = go (sameShape (l .shape) (r .shape)) refl e
+    where
+      go : (t : Bool) → sameShape (l .shape) (r .shape) ≡ t → refusedOtherwise (cond t (concluded a b (l .shape) (verdict q (l .series) (r .series))) (refused 6 0 0)) ≡ false → Sides s ll lr rl rr
+      go false h e = not-false e
+      go true h e =
+          let z : r .shape ≡ l .shape = ap (λ (n : ℕ). record { points = n }) (sym (eqb-true (l .shape .points) (r .shape .points) h)) in
+          record {
+            q = q;
+            shape = l .shape;
+            ls = l .series;
+            rs = r .series;
+            taken = record { asked = hq; lefts = hl; rights = hr ∙ ap (λ (x : Shape). vector (record { shape = x; series = r .series })) z };
+          }
+
+  other-number : {X : Type 0} (n i j : ℕ) → (3 ≤ n) × (n ≤ 5) → refusedOtherwise (refused n i j) ≡ false → X
+  other-number n i j h e = not-false (sym (rw (unequal n 7 (omega (arith, h .1)), unequal n 8 (omega (arith, h .1)))) ∙ e)
+
+  on-right : (q : Query) (l : Vector) → takeQuery s ≡ query q → takeVector 0 ll lr ≡ vector l
+      → (w : TakenVector) → takeVector 1 rl rr ≡ w → FaultFrom3To5 w → refusedOtherwise (onVector w (λ r. running a b q l r)) ≡ false → Sides s ll lr rl rr
+  on-right q l hq hl (faulty n side i) h k e = other-number n side i k e
+  on-right q l hq hl (vector r) h k e = shaped q l r hq hl h e
+
+  on-left : (q : Query) → takeQuery s ≡ query q → (w : TakenVector) → takeVector 0 ll lr ≡ w → FaultFrom3To5 w
+      → refusedOtherwise (onVector w (λ l. onVector (takeVector 1 rl rr) (λ r. running a b q l r))) ≡ false → Sides s ll lr rl rr
+  on-left q hq (faulty n side i) h k e = other-number n side i k e
+  on-left q hq (vector l) h k e = on-right q l hq h (takeVector 1 rl rr) refl (take-fault 1 rl rr) e
+
+  on-query : (w : TakenQuery) → takeQuery s ≡ w
+      → refusedOtherwise (onQuery w (λ q. onVector (takeVector 0 ll lr) (λ l. onVector (takeVector 1 rl rr) (λ r. running a b q l r)))) ≡ false → Sides s ll lr rl rr
+  on-query badOperator h e = not-false e
+  on-query malformed h e = not-false e
+  on-query (query q) h e = on-left q h (takeVector 0 ll lr) refl (take-fault 0 ll lr) e
+
+pub has-sides : HasSides
+unfolding call
+has-sides s ll lr rl rr a b e = on-query s ll lr rl rr a b (takeQuery s) refl e
