@@ -1,3 +1,4 @@
 pub mod Claims
 pub mod Dealing
 pub mod Partition
+pub mod Valid
