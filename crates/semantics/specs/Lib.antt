@@ -4,4 +4,5 @@ pub mod Rules
 pub mod Binop
 pub mod Call
 pub mod Computing
+pub mod Examples
 pub mod Laws
