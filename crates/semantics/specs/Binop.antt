@@ -118,35 +118,36 @@ alone whereFound b = none
 alone whereNone b = some b
 alone filled b = some b
 
--- 01: `or` adds unmatched right
+-- a rule that fills may add unmatched right series
 abbrev pub adds : SetRule → Bool
 adds whereFound = false
 adds whereNone = false
 adds filled = true
 
--- what an operator sees of the sides as wholes: the right series that it falls back to, and whether there is no left
+-- What an operator sees of the sides as wholes: the right series that it falls back to, and whether unmatched right series may be added.
 pub record Seen : Type 0 where
   pub fallbackTo : Option Series
-  pub noLeft : Bool
+  pub addsRight : Bool
 
--- 01: `if`, `ifnot`, `default` fall back to a right side of one series without name and tags
 abbrev pub isBare : Labels → Bool
 isBare l = isEmpty (l .name) && isEmpty (l .tags)
 
+-- 01: a right side of one series without name and tags
 abbrev pub scalarSide : List Series → Option Series
 scalarSide [] = none
 scalarSide (r ∷ []) = cond (isBare (r .labels)) (some r) none
 scalarSide (r ∷ s ∷ rs) = none
 
 abbrev pub unseen : Seen
-unseen = record { fallbackTo = none; noLeft = false }
+unseen = record { fallbackTo = none; addsRight = false }
 
--- 01: no other operator does: in arithmetic and comparisons such a side is matched by its key
+-- 01: `or` adds unmatched right; `default` with no left returns the right. `if`, `ifnot`, `default` fall back; no other operator does:
+-- in arithmetic and comparisons such a side is matched by its key.
 abbrev pub look : Kind → List Series → List Series → Seen
 look (arithmetic a) ls rs = unseen
 look (comparison c) ls rs = unseen
-look (setRule k) ls rs = unseen
-look (fallback k) ls rs = record { fallbackTo = scalarSide rs; noLeft = isEmpty ls }
+look (setRule k) ls rs = record { fallbackTo = none; addsRight = true }
+look (fallback k) ls rs = record { fallbackTo = scalarSide rs; addsRight = isEmpty ls }
 look notCarried ls rs = unseen
 
 -- a left series without right series of its key
@@ -154,10 +155,12 @@ abbrev pub unmatched : SetRule → Option Series → Series → Option Series
 unmatched k none b = alone k b
 unmatched k (some r) b = met k b (numbered right (λ i. i) (r ∷ []))
 
--- 01: `default` with no left returns the right
+abbrev pub setRuleBy : SetRule → Seen → Rule
+setRuleBy k c = plain (setRuleOf (adds k && c .addsRight) (unmatched k (c .fallbackTo)) (met k))
+
 abbrev pub ruleOf : Query → Kind → Seen → Rule
 ruleOf q (arithmetic a) c = dropping (matchedRule q (q .join))
 ruleOf q (comparison t) c = matchedRule q (q .join)
-ruleOf q (setRule k) c = plain (setRuleOf (adds k) (alone k) (met k))
-ruleOf q (fallback k) c = plain (setRuleOf (adds k && c .noLeft) (unmatched k (c .fallbackTo)) (met k))
+ruleOf q (setRule k) c = setRuleBy k c
+ruleOf q (fallback k) c = setRuleBy k c
 ruleOf q notCarried c = λ s xs. []

@@ -5,4 +5,3 @@ pub mod Binop
 pub mod Call
 pub mod Computing
 pub mod Examples
-pub mod Laws

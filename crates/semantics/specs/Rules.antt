@@ -95,9 +95,7 @@ both work (clash d) (clash e) = bad d ∷ []
 -- 01: One-to-one: first left place of the key. `work` is the operator on the two merged series.
 abbrev pub oneToOne : ℕ → (Series → Series → Series) → Plain
 oneToOne allowance work s xs =
-    cond (onSide left (s .place .side))
-    (cond (isFirst s (ofSide left xs)) (both work (mergedIntoLast allowance (ofSide left xs)) (mergedIntoLast allowance (ofSide right xs))) [])
-    []
+    cond (isFirst s (ofSide left xs)) (both work (mergedIntoLast allowance (ofSide left xs)) (mergedIntoLast allowance (ofSide right xs))) []
 
 -- joins
 

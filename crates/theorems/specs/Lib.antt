@@ -1,4 +1,5 @@
 pub mod Claims
+pub mod Laws
 pub mod Dealing
 pub mod Partition
 pub mod Valid

@@ -18,16 +18,14 @@ use Rattle.model.specs.Laws.Vector.{take-valid, taken-is}
 use Rattle.semantics.specs.Places.{Rank, rankBefore}
 use Rattle.semantics.specs.Events.{Ranked, Duplicate, Verdict, answer, duplicate}
 use Rattle.semantics.specs.Call.{Outcome, refused, answered, call, running, concluded, told, verdict, fit, sameShape, onVector, onQuery}
-use Rattle.semantics.specs.Laws.Order.{Rising}
-use Rattle.semantics.specs.Laws.Renumber.{Renumber, ranked-moved, rank-moved, verdict-moved}
-use Rattle.theorems.specs.Claims.Dealing.{Deal, secondPile, pick, pile, wholePlaces, Dealt, weave, earlierOf, mergedVerdict}
+use Rattle.theorems.specs.Claims.Dealing.{Rising, Renumber, movedRanked, movedRank, movedVerdict, Deal, secondPile, pick, pile, wholePlaces, Dealt, weave, earlierOf, mergedVerdict}
 use Rattle.theorems.specs.Claims.Partition.{Taken, callOn, pileCall, isRefused, refusedOtherwise, written, seriesIn, firstDuplicate, DuplicateOf, MergedAnswer, Splits, Partition, Sides, HasSides}
 use Rattle.theorems.specs.Dealing.Faults.{FaultFrom3To5, take-fault}
 use Rattle.theorems.specs.Dealing.Verdicts.{pileVerdict, verdicts, verdict-rising}
 use Rattle.theorems.specs.Dealing.Fitting.{Fits, fits-fit, Way, fine, too-big, no-room, fit-way, length-weave, bytes-weave, fits-weave}
 
-series-moved-same : (ρ : Renumber) (l : List (Ranked Rank Series)) → seriesIn (map (ranked-moved (rank-moved ρ) (λ s. s)) l) ≡ seriesIn l
-series-moved-same ρ l = map-map _ _ l
+series-same : (ρ : Renumber) (l : List (Ranked Rank Series)) → seriesIn (map (movedRanked (movedRank ρ) (λ s. s)) l) ≡ seriesIn l
+series-same ρ l = map-map _ _ l
 
 not-false : {X : Type 0} → true ≡ false → X
 not-false e = absurd (false≢true (sym e))
@@ -38,10 +36,10 @@ module _ (a b : ℕ) (shape : Shape) (ρ₁ ρ₂ : Renumber) where
 
   module _ (l m : List (Ranked Rank Series)) where
     abbrev firsts : List (Ranked Rank Series)
-    firsts = map (ranked-moved (rank-moved ρ₁) (λ s. s)) l
+    firsts = map (movedRanked (movedRank ρ₁) (λ s. s)) l
 
     abbrev seconds : List (Ranked Rank Series)
-    seconds = map (ranked-moved (rank-moved ρ₂) (λ s. s)) m
+    seconds = map (movedRanked (movedRank ρ₂) (λ s. s)) m
 
     abbrev merged : List (Ranked Rank Series)
     merged = weave rankBefore firsts seconds
@@ -50,8 +48,8 @@ module _ (a b : ℕ) (shape : Shape) (ρ₁ ρ₂ : Renumber) where
     all-answer : Rising rankBefore merged → Fits a b shape (seriesIn merged) → Claim (answer l) (answer m) (fit a b shape (seriesIn merged))
     all-answer order h =
         let f = fits-weave a b shape firsts seconds h in
-        let e₁ : fit a b shape (seriesIn l) ≡ written shape (seriesIn firsts) = sym (ap (fit a b shape) (series-moved-same ρ₁ l)) ∙ fits-fit a b shape (seriesIn firsts) (f .0) in
-        let e₂ : fit a b shape (seriesIn m) ≡ written shape (seriesIn seconds) = sym (ap (fit a b shape) (series-moved-same ρ₂ m)) ∙ fits-fit a b shape (seriesIn seconds) (f .1) in
+        let e₁ : fit a b shape (seriesIn l) ≡ written shape (seriesIn firsts) = sym (ap (fit a b shape) (series-same ρ₁ l)) ∙ fits-fit a b shape (seriesIn firsts) (f .0) in
+        let e₂ : fit a b shape (seriesIn m) ≡ written shape (seriesIn seconds) = sym (ap (fit a b shape) (series-same ρ₂ m)) ∙ fits-fit a b shape (seriesIn seconds) (f .1) in
         let e₃ = fits-fit a b shape (seriesIn merged) h in
         record {
           first-call = refl;
@@ -82,9 +80,9 @@ module _ (a b : ℕ) (shape : Shape) (ρ₁ ρ₂ : Renumber) where
   one-refused true = refl
   one-refused false = refl
 
-  splits : (v w : Verdict) → ((k : List (Ranked Rank Series)) → mergedVerdict (verdict-moved ρ₁ v) (verdict-moved ρ₂ w) ≡ answer k → Rising rankBefore k)
-      → refusedOtherwise (concluded a b shape (mergedVerdict (verdict-moved ρ₁ v) (verdict-moved ρ₂ w))) ≡ false
-      → Claim v w (concluded a b shape (mergedVerdict (verdict-moved ρ₁ v) (verdict-moved ρ₂ w)))
+  splits : (v w : Verdict) → ((k : List (Ranked Rank Series)) → mergedVerdict (movedVerdict ρ₁ v) (movedVerdict ρ₂ w) ≡ answer k → Rising rankBefore k)
+      → refusedOtherwise (concluded a b shape (mergedVerdict (movedVerdict ρ₁ v) (movedVerdict ρ₂ w))) ≡ false
+      → Claim v w (concluded a b shape (mergedVerdict (movedVerdict ρ₁ v) (movedVerdict ρ₂ w)))
   splits (answer l) (answer m) up r = fitted l m (up _ refl) (fit-way a b shape (seriesIn (merged l m))) r
   splits (answer l) (duplicate y) up r =
       record {

@@ -30,7 +30,7 @@ use Rattle.semantics.specs.Events.{Ranked, Verdict, answer, duplicate}
 use Rattle.semantics.specs.Rules.{withRow, mergedInto}
 use Rattle.semantics.specs.Binop.{shouldResetMetricGroup, editedBy, adjustBinaryOpTags, paired, skipList, joinLabels, joinRows, joinWork, matchedRule, Found, firstReading, isFound, someReading, filledFrom, setReading, pointwise, unlessOnlyMissing, staying, met, alone, adds, Seen, unmatched, scalarSide, isBare, look, ruleOf}
 use Rattle.semantics.specs.Call.{Outcome, refused, answered, call, concluded, verdict, fit, overTags}
-use Rattle.semantics.specs.Laws.Sound.{Each, Keeps, Sure, Holds, run-holds, dropping-keeps, one-to-one-keeps, joined-keeps, set-rule-keeps}
+use Rattle.theorems.specs.Laws.Sound.{Each, Keeps, Sure, Holds, run-holds, dropping-keeps, one-to-one-keeps, joined-keeps, set-rule-keeps}
 use Rattle.theorems.specs.Claims.Partition.{Taken, refusedOtherwise, written, seriesIn, Sides}
 use Rattle.theorems.specs.Claims.Valid.{ValidAnswer, AnswersAreValid}
 use Rattle.theorems.specs.Dealing.Fitting.{Fits, fits-fit, Way, fine, too-big, no-room, fit-way}
@@ -228,8 +228,8 @@ module _ (p : ℕ) where
   rule-keeps : (q : Query) (k : Kind) (c : Seen) → Sure (Proper p) (c .fallbackTo) → Keeps (Proper p) (ruleOf q k c)
   rule-keeps q (arithmetic a) c s = dropping-keeps (Proper p) (matchedRule q (q .join)) (matched-keeps q (q .join))
   rule-keeps q (comparison t) c s = matched-keeps q (q .join)
-  rule-keeps q (setRule k) c s = set-rule-keeps (Proper p) (adds k) (alone k) (met k) (alone-sure k) (met-sure k)
-  rule-keeps q (fallback k) c s = set-rule-keeps (Proper p) (adds k && c .noLeft) (unmatched k (c .fallbackTo)) (met k) (unmatched-sure k (c .fallbackTo) s) (met-sure k)
+  rule-keeps q (setRule k) c s = set-rule-keeps (Proper p) (adds k && c .addsRight) (unmatched k (c .fallbackTo)) (met k) (unmatched-sure k (c .fallbackTo) s) (met-sure k)
+  rule-keeps q (fallback k) c s = set-rule-keeps (Proper p) (adds k && c .addsRight) (unmatched k (c .fallbackTo)) (met k) (unmatched-sure k (c .fallbackTo) s) (met-sure k)
   rule-keeps q notCarried c s = record { keeps = λ s xs a b. tt }
 
   scalar-sure : (rs : List Series) → All (Proper p) rs → Sure (Proper p) (scalarSide rs)

@@ -36,10 +36,10 @@ number-1 = refl
 -- a matching list without matching, a join list without a join, a byte left over.
 number-2 :
     outcomes asked (
-      [] ∷ (0 ∷ []) ∷ (0 ∷ 0 ∷ 0 ∷ 0 ∷ 0 ∷ []) ∷
-      (0 ∷ 3 ∷ 0 ∷ 0 ∷ 0 ∷ 0 ∷ []) ∷ (0 ∷ 0 ∷ 4 ∷ 0 ∷ 0 ∷ 0 ∷ []) ∷ (0 ∷ 0 ∷ 0 ∷ 4 ∷ 0 ∷ 0 ∷ []) ∷
-      (0 ∷ 1 ∷ 0 ∷ 0 ∷ 33 ∷ 0 ∷ []) ∷ (0 ∷ 1 ∷ 0 ∷ 0 ∷ 1 ∷ 2 ∷ 112 ∷ []) ∷ (0 ∷ 1 ∷ 0 ∷ 0 ∷ 1 ∷ 0 ∷ 0 ∷ []) ∷
-      (0 ∷ 0 ∷ 0 ∷ 0 ∷ 1 ∷ 1 ∷ 112 ∷ 0 ∷ []) ∷ (0 ∷ 0 ∷ 3 ∷ 0 ∷ 0 ∷ 1 ∷ 1 ∷ 112 ∷ []) ∷ (0 ∷ 0 ∷ 0 ∷ 0 ∷ 0 ∷ 0 ∷ 0 ∷ []) ∷ []
+    [] ∷ (0 ∷ []) ∷ (0 ∷ 0 ∷ 0 ∷ 0 ∷ 0 ∷ []) ∷
+    (0 ∷ 3 ∷ 0 ∷ 0 ∷ 0 ∷ 0 ∷ []) ∷ (0 ∷ 0 ∷ 4 ∷ 0 ∷ 0 ∷ 0 ∷ []) ∷ (0 ∷ 0 ∷ 0 ∷ 4 ∷ 0 ∷ 0 ∷ []) ∷
+    (0 ∷ 1 ∷ 0 ∷ 0 ∷ 33 ∷ 0 ∷ []) ∷ (0 ∷ 1 ∷ 0 ∷ 0 ∷ 1 ∷ 2 ∷ 112 ∷ []) ∷ (0 ∷ 1 ∷ 0 ∷ 0 ∷ 1 ∷ 0 ∷ 0 ∷ []) ∷
+    (0 ∷ 0 ∷ 0 ∷ 0 ∷ 1 ∷ 1 ∷ 112 ∷ 0 ∷ []) ∷ (0 ∷ 0 ∷ 3 ∷ 0 ∷ 0 ∷ 1 ∷ 1 ∷ 112 ∷ []) ∷ (0 ∷ 0 ∷ 0 ∷ 0 ∷ 0 ∷ 0 ∷ 0 ∷ []) ∷ []
     )
     ≡ refused 2 0 0 ∷ refused 2 0 0 ∷ refused 2 0 0 ∷ refused 2 0 0 ∷ refused 2 0 0 ∷ refused 2 0 0 ∷
     refused 2 0 0 ∷ refused 2 0 0 ∷ refused 2 0 0 ∷ refused 2 0 0 ∷ refused 2 0 0 ∷ refused 2 0 0 ∷ []
@@ -67,10 +67,10 @@ limits-pass = refl
 -- 01: a record cut or over 32 tags, or label bytes left over: the record's place, and n for bytes left over
 records-3 :
     outcomes (λ l. onRight l []) (
-      (2 ∷ 0 ∷ 0 ∷ 0 ∷ 2 ∷ 0 ∷ 0 ∷ 0 ∷ []) ∷
-      (2 ∷ 0 ∷ 0 ∷ 0 ∷ 4 ∷ 0 ∷ 0 ∷ 0 ∷ 2 ∷ 97 ∷ []) ∷
-      (1 ∷ 0 ∷ 0 ∷ 0 ∷ 2 ∷ 0 ∷ 0 ∷ 33 ∷ []) ∷
-      (1 ∷ 0 ∷ 0 ∷ 0 ∷ 3 ∷ 0 ∷ 0 ∷ 0 ∷ 9 ∷ []) ∷ []
+    (2 ∷ 0 ∷ 0 ∷ 0 ∷ 2 ∷ 0 ∷ 0 ∷ 0 ∷ []) ∷
+    (2 ∷ 0 ∷ 0 ∷ 0 ∷ 4 ∷ 0 ∷ 0 ∷ 0 ∷ 2 ∷ 97 ∷ []) ∷
+    (1 ∷ 0 ∷ 0 ∷ 0 ∷ 2 ∷ 0 ∷ 0 ∷ 33 ∷ []) ∷
+    (1 ∷ 0 ∷ 0 ∷ 0 ∷ 3 ∷ 0 ∷ 0 ∷ 0 ∷ 9 ∷ []) ∷ []
     )
     ≡ refused 3 1 1 ∷ refused 3 1 1 ∷ refused 3 1 0 ∷ refused 3 1 1 ∷ []
 unfolding computing
@@ -82,8 +82,8 @@ recordOf tags = labelPart (record { points = 0 }) (series [] (press A ∷ []) []
 -- 01: 4, an empty key, key order or `__name__`
 keys-4 :
     outcomes (λ l. onLeft l []) (
-      recordOf (record { key = []; value = A } ∷ []) ∷ recordOf (press A ∷ form A ∷ []) ∷ recordOf (press A ∷ press B ∷ []) ∷
-      recordOf (record { key = nameLabel; value = A } ∷ []) ∷ []
+    recordOf (record { key = []; value = A } ∷ []) ∷ recordOf (press A ∷ form A ∷ []) ∷ recordOf (press A ∷ press B ∷ []) ∷
+    recordOf (record { key = nameLabel; value = A } ∷ []) ∷ []
     )
     ≡ refused 4 0 1 ∷ refused 4 0 1 ∷ refused 4 0 1 ∷ refused 4 0 1 ∷ []
 unfolding computing

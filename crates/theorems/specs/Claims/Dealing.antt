@@ -3,7 +3,7 @@ use Prim.Native.Nat.{ℕ, zero, suc}
 use mathlib.Core.Path.{_≡_}
 use mathlib.Core.Bool.{Bool, true, false, not, _&&_, cond}
 use mathlib.Core.Option.{Option, none, some}
-use mathlib.Core.List.{List, [], _∷_}
+use mathlib.Core.List.{List, [], _∷_, map}
 use Rattle.operator.specs.Kinds.{Kind, arithmetic, comparison, setRule, fallback, notCarried, SetRule, whereFound, whereNone, filled, kindOf}
 use Rattle.model.specs.Lists.{keep, isEmpty, All}
 use Rattle.model.specs.Query.{Query, sameKey, Side, left, right}
@@ -11,7 +11,6 @@ use Rattle.model.specs.Vector.{Series}
 use Rattle.semantics.specs.Places.{Place, Placed, placed, Rank, rankBefore}
 use Rattle.semantics.specs.Events.{Duplicate, Ranked, Verdict, answer, duplicate}
 use Rattle.semantics.specs.Binop.{scalarSide}
-use Rattle.semantics.specs.Laws.Renumber.{Renumber}
 
 -- 01: Each series of both sides goes into exactly one of two piles: the first where this is true.
 abbrev pub Deal : Type 0
@@ -28,6 +27,26 @@ pick d (b ∷ bs) = cond (d zero) (b ∷ pick (λ i. d (suc i)) bs) (pick (λ i.
 -- 01: record and row unchanged
 abbrev pub pile : Deal → Side → List Series → List Series
 pile deal s bs = pick (λ i. deal (record { side = s; number = i })) bs
+
+-- new numbers for each side's
+abbrev pub Renumber : Type 0
+Renumber = Side → ℕ → ℕ
+
+abbrev pub movedPlace : Renumber → Place → Place
+movedPlace ρ p = record { side = p .side; number = ρ (p .side) (p .number) }
+
+abbrev pub movedDuplicate : Renumber → Duplicate → Duplicate
+movedDuplicate ρ d = record { kept = movedPlace ρ (d .kept); failed = movedPlace ρ (d .failed) }
+
+abbrev pub movedRank : Renumber → Rank → Rank
+movedRank ρ r = record { producer = movedPlace ρ (r .producer); earliest = movedPlace ρ (r .earliest) }
+
+abbrev pub movedRanked : {R E : Type 0} → (R → R) → (E → E) → Ranked R E → Ranked R E
+movedRanked m h e = record { rank = m (e .rank); what = h (e .what) }
+
+abbrev pub movedVerdict : Renumber → Verdict → Verdict
+movedVerdict ρ (answer l) = answer (map (movedRanked (movedRank ρ) (λ s. s)) l)
+movedVerdict ρ (duplicate x) = duplicate (movedRanked (movedRank ρ) (movedDuplicate ρ) x)
 
 abbrev pub nextNumber : ℕ → (ℕ → ℕ) → ℕ
 nextNumber zero g = zero
@@ -88,6 +107,11 @@ module _ {R E : Type 0} (lt : R → R → Bool) where
   abbrev pub insert : Ranked R E → List (Ranked R E) → List (Ranked R E)
   insert e [] = e ∷ []
   insert e (b ∷ bs) = cond (lt (b .rank) (e .rank)) (b ∷ insert e bs) (e ∷ b ∷ bs)
+
+  -- ranks never fall in a list
+  abbrev pub Rising : List (Ranked R E) → Type 0
+  Rising [] = Unit {0}
+  Rising (e ∷ l) = All (λ b. lt (b .rank) (e .rank) ≡ false) l × Rising l
 
   -- 01: Merging ranks the series of both piles' answers. Each of the first list goes into its place in the second.
   abbrev pub weave : List (Ranked R E) → List (Ranked R E) → List (Ranked R E)

@@ -12,9 +12,7 @@ use Rattle.model.specs.Vector.{Series, Shape, vector, takeVector, labelPart, la
 use Rattle.semantics.specs.Places.{Rank, rankBefore}
 use Rattle.semantics.specs.Events.{Ranked, Duplicate, Verdict, answer, duplicate}
 use Rattle.semantics.specs.Call.{Outcome, refused, answered, verdict, told, concluded, call}
-use Rattle.semantics.specs.Laws.Order.{Rising}
-use Rattle.semantics.specs.Laws.Renumber.{Renumber, verdict-moved}
-use Rattle.theorems.specs.Claims.Dealing.{Deal, secondPile, pile, wholePlaces, Dealt, weave, earlierOf}
+use Rattle.theorems.specs.Claims.Dealing.{Rising, Renumber, movedVerdict, Deal, secondPile, pile, wholePlaces, Dealt, weave, earlierOf}
 
 -- bytes and readings that are taken as a query and two sides of one shape
 pub record Taken (s ll lr rl rr : List ℕ) (q : Query) (shape : Shape) (ls rs : List Series) : Type 0 where
@@ -79,8 +77,8 @@ pub record Splits (labelRoom room : ℕ) (shape : Shape) (ρ₁ ρ₂ : Renumber
   -- it is refused exactly when a pile's call is
   pub together : isRefused whole ≡ (isRefused first || isRefused second)
   -- and then with the first of the piles' duplicates, its series named by their places before the dealing
-  pub duplicates : isRefused whole ≡ true → DuplicateOf (verdict-moved ρ₁ v) (verdict-moved ρ₂ w) whole
-  pub answers : isRefused whole ≡ false → MergedAnswer (verdict-moved ρ₁ v) (verdict-moved ρ₂ w) shape whole first second
+  pub duplicates : isRefused whole ≡ true → DuplicateOf (movedVerdict ρ₁ v) (movedVerdict ρ₂ w) whole
+  pub answers : isRefused whole ≡ false → MergedAnswer (movedVerdict ρ₁ v) (movedVerdict ρ₂ w) shape whole first second
 
 -- demand 3 whole
 abbrev pub Partition : Type 0

@@ -13,8 +13,8 @@ use Rattle.semantics.specs.Places.{Place, Placed, numbered, placed}
 use Rattle.semantics.specs.Events.{mark, ofKey, producedBy, emission, settle, run}
 use Rattle.semantics.specs.Rules.{ofSide, optional, leftResult, rightResult}
 use Rattle.semantics.specs.Binop.{met, unmatched, adds, Seen, ruleOf, scalarSide, look}
-use Rattle.semantics.specs.Laws.Renumber.{Renumber, series-moved}
-use Rattle.theorems.specs.Claims.Dealing.{Deal, pick, pile, wholePlaces, Apart, isSome, sameKeyOf, fallsBack, FallsAlike}
+use Rattle.theorems.specs.Laws.Renumber.{movedSeries}
+use Rattle.theorems.specs.Claims.Dealing.{Renumber, Deal, pick, pile, wholePlaces, Apart, isSome, sameKeyOf, fallsBack, FallsAlike}
 use Rattle.theorems.specs.Dealing.Numbers.{pilePlaced, pile-whole}
 
 abbrev seriesOf : List Placed → List Series
@@ -39,7 +39,7 @@ module _ (q : Query) where
   pub rights-placed : (b : Series) (ls rs : List Series) → rights b (placed ls rs) ≡ sameKeyOf q b rs
   rights-placed b ls rs = rw (rights-append, rights-left b (λ i. i) ls, rights-right b (λ i. i) rs)
 
-  rights-moved : (b : Series) (ρ : Renumber) (xs : List Placed) → rights b (map (series-moved ρ) xs) ≡ rights b xs
+  rights-moved : (b : Series) (ρ : Renumber) (xs : List Placed) → rights b (map (movedSeries ρ) xs) ≡ rights b xs
   rights-moved b ρ xs = simp (keep-map, map-map)
 
   -- a pile has all the right series of its series' keys

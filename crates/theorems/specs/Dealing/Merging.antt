@@ -7,8 +7,8 @@ use Rattle.model.specs.Vector.{Series}
 use Rattle.model.specs.Laws.Lists.{All-map, All-each, All-zip, All-append, All-keep, All-gather}
 use Rattle.semantics.specs.Places.{Rank, rankBefore}
 use Rattle.semantics.specs.Events.{Duplicate, Event, good, bad, Ranked, Verdict, answer, duplicate, front, settle}
-use Rattle.semantics.specs.Laws.Order.{Rising, Behind, Orderly}
-use Rattle.theorems.specs.Claims.Dealing.{insert, weave, earlierOf, mergedVerdict}
+use Rattle.theorems.specs.Laws.Order.{Behind, Orderly}
+use Rattle.theorems.specs.Claims.Dealing.{Rising, insert, weave, earlierOf, mergedVerdict}
 
 module _ {R E : Type 0} (lt : R → R → Bool) where
   insert-here : (e : Ranked R E) (l : List (Ranked R E)) → All (λ b. lt (b .rank) (e .rank) ≡ false) l → insert lt e l ≡ e ∷ l

@@ -10,9 +10,9 @@ use Rattle.model.specs.Vector.{Series}
 use Rattle.model.specs.Laws.Lists.{All-map, keep-append, keep-keep, gather-keep-cong, map-append}
 use Rattle.semantics.specs.Places.{Place, Placed, numbered, placed, alongside, rankBefore}
 use Rattle.semantics.specs.Events.{Rule, Verdict, ofKey, emission, events, run}
-use Rattle.semantics.specs.Laws.Order.{Steady, Ascending, placed-ascending, events-orderly}
-use Rattle.semantics.specs.Laws.Renumber.{Renumber, series-moved, verdict-moved, Exact, Natural, run-moved}
-use Rattle.theorems.specs.Claims.Dealing.{Deal, secondPile, pick, pile, nextNumber, wholeNumber, wholePlaces, Apart, mergedVerdict}
+use Rattle.theorems.specs.Laws.Order.{Steady, Ascending, placed-ascending, events-orderly}
+use Rattle.theorems.specs.Laws.Renumber.{movedSeries, Exact, Natural, run-moved}
+use Rattle.theorems.specs.Claims.Dealing.{Renumber, movedVerdict, Deal, secondPile, pick, pile, nextNumber, wholeNumber, wholePlaces, Apart, mergedVerdict}
 use Rattle.theorems.specs.Dealing.Merging.{settled}
 
 next-exact : (g : ℕ → ℕ) → ((i j : ℕ) → eqb (g i) (g j) ≡ eqb i j) → (i j : ℕ) → eqb (nextNumber i g) (nextNumber j g) ≡ eqb i j
@@ -37,7 +37,7 @@ whole-exact deal ls rs p q = go (p .side) (q .side) (p .number) (q .number)
     go right left i j = refl
     go right right i j = number-exact _ rs i j
 
-numbered-moved : (ρ : Renumber) (s : Side) (g : ℕ → ℕ) (bs : List Series) → map (series-moved ρ) (numbered s g bs) ≡ numbered s (λ i. ρ s (g i)) bs
+numbered-moved : (ρ : Renumber) (s : Side) (g : ℕ → ℕ) (bs : List Series) → map (movedSeries ρ) (numbered s g bs) ≡ numbered s (λ i. ρ s (g i)) bs
 numbered-moved ρ s g [] = refl
 numbered-moved ρ s g (b ∷ bs) = rw (numbered-moved ρ s (λ i. g (suc i)) bs)
 
@@ -54,7 +54,7 @@ keep-numbered deal s g (b ∷ bs) =
 abbrev pub pilePlaced : Deal → List Series → List Series → List Placed
 pilePlaced deal ls rs = placed (pile deal left ls) (pile deal right rs)
 
-pub pile-whole : (deal : Deal) (ls rs : List Series) → keep (λ x. deal (x .place)) (placed ls rs) ≡ map (series-moved (wholePlaces deal ls rs)) (pilePlaced deal ls rs)
+pub pile-whole : (deal : Deal) (ls rs : List Series) → keep (λ x. deal (x .place)) (placed ls rs) ≡ map (movedSeries (wholePlaces deal ls rs)) (pilePlaced deal ls rs)
 pile-whole deal ls rs = simp (keep-append, keep-numbered deal, map-append, numbered-moved)
 
 pub apart-second : (q : Query) (deal : Deal) (xs : List Placed) → Apart q deal xs → Apart q (secondPile deal) xs
@@ -75,7 +75,7 @@ module _ (q : Query) (f : Rule) where
   -- the whole verdict of a rule is the piles', in whole places, merged
   pub dealt-verdict : Natural f → Steady f → (deal : Deal) (ls rs : List Series) → Apart q deal (placed ls rs)
       → run q f (placed ls rs)
-      ≡ mergedVerdict (verdict-moved (wholePlaces deal ls rs) (run q f (pilePlaced deal ls rs))) (verdict-moved (wholePlaces (secondPile deal) ls rs) (run q f (pilePlaced (secondPile deal) ls rs)))
+      ≡ mergedVerdict (movedVerdict (wholePlaces deal ls rs) (run q f (pilePlaced deal ls rs))) (movedVerdict (wholePlaces (secondPile deal) ls rs) (run q f (pilePlaced (secondPile deal) ls rs)))
   dealt-verdict natural steady deal ls rs a =
       rw (
         dealt-run steady deal (placed ls rs) (placed-ascending ls rs) a,

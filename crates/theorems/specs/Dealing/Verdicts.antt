@@ -11,11 +11,11 @@ use Rattle.semantics.specs.Places.{Place, placed, Rank, rankBefore}
 use Rattle.semantics.specs.Events.{Ranked, Verdict, answer, run, emission}
 use Rattle.semantics.specs.Rules as Rules
 use Rattle.semantics.specs.Rules.{setRuleOf}
-use Rattle.semantics.specs.Binop.{paired, joinLabels, joinWork, matchedRule, met, alone, unmatched, adds, Seen, ruleOf, look}
+use Rattle.semantics.specs.Binop.{paired, joinLabels, joinWork, matchedRule, met, unmatched, adds, Seen, ruleOf, look}
 use Rattle.semantics.specs.Call.{verdict}
-use Rattle.semantics.specs.Laws.Order.{Rising, Steady, plain-steady, dropping-steady, joined-steady, placed-ascending, events-orderly}
-use Rattle.semantics.specs.Laws.Renumber.{Natural, verdict-moved, dropping-natural, one-to-one-natural, joined-natural, set-rule-natural, met-moved}
-use Rattle.theorems.specs.Claims.Dealing.{Deal, secondPile, pile, wholePlaces, Apart, FallsAlikeIf, Dealt, mergedVerdict}
+use Rattle.theorems.specs.Laws.Order.{Steady, plain-steady, dropping-steady, joined-steady, placed-ascending, events-orderly}
+use Rattle.theorems.specs.Laws.Renumber.{Natural, dropping-natural, one-to-one-natural, joined-natural, set-rule-natural, met-moved}
+use Rattle.theorems.specs.Claims.Dealing.{Rising, movedVerdict, Deal, secondPile, pile, wholePlaces, Apart, FallsAlikeIf, Dealt, mergedVerdict}
 use Rattle.theorems.specs.Dealing.Merging.{answer-rising}
 use Rattle.theorems.specs.Dealing.Numbers.{pilePlaced, apart-second, dealt-verdict}
 use Rattle.theorems.specs.Dealing.Fallback.{falls-same}
@@ -31,15 +31,15 @@ matched-steady q (group many) = joined-steady twoOverlaps (joinLabels q) (joinWo
 rule-natural : (q : Query) (k : Kind) (c : Seen) → Natural (ruleOf q k c)
 rule-natural q (arithmetic a) c = dropping-natural (matched-natural q (q .join))
 rule-natural q (comparison t) c = matched-natural q (q .join)
-rule-natural q (setRule k) c = set-rule-natural (adds k) (alone k) (met k) (met-moved k)
-rule-natural q (fallback k) c = set-rule-natural (adds k && c .noLeft) (unmatched k (c .fallbackTo)) (met k) (met-moved k)
+rule-natural q (setRule k) c = set-rule-natural (adds k && c .addsRight) (unmatched k (c .fallbackTo)) (met k) (met-moved k)
+rule-natural q (fallback k) c = set-rule-natural (adds k && c .addsRight) (unmatched k (c .fallbackTo)) (met k) (met-moved k)
 rule-natural q notCarried c = record { moves = λ ρ exact s xs. refl }
 
 rule-steady : (q : Query) (k : Kind) (c : Seen) → Steady (ruleOf q k c)
 rule-steady q (arithmetic a) c = dropping-steady (matched-steady q (q .join))
 rule-steady q (comparison t) c = matched-steady q (q .join)
-rule-steady q (setRule k) c = plain-steady (setRuleOf (adds k) (alone k) (met k))
-rule-steady q (fallback k) c = plain-steady (setRuleOf (adds k && c .noLeft) (unmatched k (c .fallbackTo)) (met k))
+rule-steady q (setRule k) c = plain-steady (setRuleOf (adds k && c .addsRight) (unmatched k (c .fallbackTo)) (met k))
+rule-steady q (fallback k) c = plain-steady (setRuleOf (adds k && c .addsRight) (unmatched k (c .fallbackTo)) (met k))
 rule-steady q notCarried c = record { rises = λ s xs a. tt }
 
 -- a pile's verdict does not turn on whether its rule sees the pile's sides or the whole's
@@ -58,7 +58,7 @@ pileVerdict q deal ls rs = verdict q (pile deal left ls) (pile deal right rs)
 
 pub verdicts : (q : Query) (deal : Deal) (ls rs : List Series) → Dealt q deal ls rs
     → verdict q ls rs
-    ≡ mergedVerdict (verdict-moved (wholePlaces deal ls rs) (pileVerdict q deal ls rs)) (verdict-moved (wholePlaces (secondPile deal) ls rs) (pileVerdict q (secondPile deal) ls rs))
+    ≡ mergedVerdict (movedVerdict (wholePlaces deal ls rs) (pileVerdict q deal ls rs)) (movedVerdict (wholePlaces (secondPile deal) ls rs) (pileVerdict q (secondPile deal) ls rs))
 unfolding verdict
 verdicts q deal ls rs d =
     rw (

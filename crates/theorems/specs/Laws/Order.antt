@@ -9,9 +9,10 @@ use borrow.Author.Tests.{le-ltb, lt-ltb}
 use Rattle.model.specs.Lists.{cases, keep, All, gather}
 use Rattle.model.specs.Query.{Query, sameKey, Side, left, right}
 use Rattle.model.specs.Vector.{Series}
+use Rattle.theorems.specs.Claims.Dealing.{Rising}
 use Rattle.semantics.specs.Places.{Place, Placed, numbered, placed, earlier, before, Rank, rankBefore}
 use Rattle.semantics.specs.Events.{Ranked, Event, mark, Rule, ofKey, producedBy, emission}
 use Rattle.semantics.specs.Rules.{Plain, plain, onSide, other, ofSide, pairs, groupOf, groups, joined, hasReadings, dropping}
 use Rattle.model.specs.Laws.Lists.{All-map, All-each, All-append, All-on-map, All-keep, All-gather}
 
 ltb-irrefl : (n : ℕ) → ltb n n ≡ false
@@ -27,11 +28,6 @@ before-irrefl p = earlier-same (p .side) _ ∙ ltb-irrefl (p .number)
 -- ranks
 
 module _ {R E : Type 0} (lt : R → R → Bool) where
-  -- ranks never fall in a list
-  abbrev pub Rising : List (Ranked R E) → Type 0
-  Rising [] = Unit {0}
-  Rising (e ∷ l) = All (λ b. lt (b .rank) (e .rank) ≡ false) l × Rising l
-
   -- b ranks behind e
   abbrev pub Behind : Ranked R E → Ranked R E → Type 0
   Behind e b = (lt (e .rank) (b .rank) ≡ true) × (lt (b .rank) (e .rank) ≡ false)

@@ -113,10 +113,8 @@ module _ (P : Series → Type 0) where
     one-to-one-keeps work w =
         plain-keeps (Rules.oneToOne allowance work)
         (λ s xs a b.
-        either Fine (onSide left (s .place .side)) _ []
-        (either Fine (isFirst s (ofSide left xs)) (both work (mergedIntoLast allowance (ofSide left xs)) (mergedIntoLast allowance (ofSide right xs))) []
+        either Fine (isFirst s (ofSide left xs)) (both work (mergedIntoLast allowance (ofSide left xs)) (mergedIntoLast allowance (ofSide right xs))) []
         (both-fine work w (mergedIntoLast allowance (ofSide left xs)) (mergedIntoLast allowance (ofSide right xs)) (last-solid (ofSide left xs) (side-each left xs b)) (last-solid (ofSide right xs) (side-each right xs b))) tt)
-        tt)
 
     pairs-each : (edit : Series → Series → Series) → ((b c : Series) → P b → P c → P (edit b c)) → (b : Series) (xs : List Placed) → P b → Each xs → Each (pairs edit b xs)
     pairs-each edit w b [] h a = tt
