@@ -1,3 +1,4 @@
 pub mod Dealing
 pub mod Partition
 pub mod Valid
+pub mod Prometheus

@@ -3,3 +3,4 @@ pub mod Laws
 pub mod Dealing
 pub mod Partition
 pub mod Valid
+pub mod Prometheus
