@@ -4,3 +4,4 @@ pub mod Dealing
 pub mod Partition
 pub mod Valid
 pub mod Prometheus
+pub mod Joins

@@ -2,7 +2,7 @@
 use Prim.Native.Nat.{ℕ, _<_}
 use mathlib.Core.Path.{_≡_}
 use mathlib.Core.Bool.{Bool, true, false, not, cond}
-use mathlib.Core.List.{List, [], _∷_}
+use mathlib.Core.List.{List, [], _∷_, List·Memᴰ}
 use lib.ListN.{length, getD}
 use Rattle.operator.specs.declared.Operator.{Operator}
 use Rattle.operator.specs.declared.Operator.the-variants.{And, Unless}
@@ -68,9 +68,9 @@ UnlessReads = ReadsAs Unless unlessOf
 
 -- joins
 
-pub data In {A : Type 0} (x : A) : List A → Type 0 where
-  here : (xs : List A) → In x (x ∷ xs)
-  there : (y : A) (xs : List A) → In x xs → In x (y ∷ xs)
+-- membership in a list, the library's
+abbrev pub In : {A : Type 0} → A → List A → Type 0
+In x xs = List·Memᴰ x xs
 
 -- after document 01's first drop of empty series, which arithmetic makes
 abbrev pub afterDrop : Kind → List Placed → List Placed
