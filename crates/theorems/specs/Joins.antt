@@ -4,7 +4,7 @@ use mathlib.Core.Path.{_≡_, refl, sym, ap, _∙_}
 use mathlib.Core.Bool.{Bool, true, false, not, cond, false≢true}
 use mathlib.Core.Option.{Option, none, some}
 use mathlib.Core.Logic.{_⊎_, inl, inr}
-use mathlib.Core.List.{List, [], _∷_, _++_, map, List·Memᴰ·head, List·Memᴰ·tail, List·Memᴰ·not-nil, List·Memᴰ·cases-cons, Memᴰ·append-left, Memᴰ·append-right}
+use mathlib.Core.List.{List, [], _∷_, _++_, map, append-nil, List·Memᴰ·head, List·Memᴰ·tail, List·Memᴰ·not-nil, List·Memᴰ·cases-cons, Memᴰ·append-left, Memᴰ·append-right}
 use native.Mathlib.Omega.{arith}
 use lib.Dec.{ltb, eqb}
 use lib.ListN.{length, getD}
@@ -16,15 +16,18 @@ use Rattle.model.specs.Reading.{noReading, scalarOp}
 use Rattle.model.specs.Row.{zipWith, merged, twoOverlaps}
 use Rattle.model.specs.Labels.{sameTags}
 use Rattle.model.specs.Query.{Query, sameKey, Side, left, right, Join, oneToOne, group}
-use Rattle.model.specs.Vector.{Series}
+use Rattle.model.specs.Vector.{Series, Shape}
 use Rattle.model.specs.Laws.Lists.{keep-append}
 use Rattle.model.specs.Laws.Tags.{same-tags-is, same-tags-refl}
 use Rattle.semantics.specs.Places.{Place, Placed, placed, samePlace, before, earlier, alongside, Rank}
 use Rattle.semantics.specs.Events.{Duplicate, Event, good, bad, Ranked, mark, Rule, Verdict, answer, duplicate, ofKey, producedBy, emission, events, front, settle, run}
 use Rattle.semantics.specs.Rules.{onSide, other, ofSide, isFirst, Merged, nothing, one, clash, onMerged, withRow, mergedInto, absorbed, mergedIntoEarliest, pairs, sameEdited, alikeTo, worked, groupOf, groups, joined, hasReadings, dropping}
 use Rattle.semantics.specs.Binop.{joinLabels, joinRows, joinWork, matchedRule, Seen, ruleOf, look}
-use Rattle.semantics.specs.Call.{verdict}
-use Rattle.theorems.specs.Claims.Prometheus.{readingAt, In, afterDrop, joinedSeries, matchesOf, IsJoin, ManySide, Served, EveryMatchServed, onPoint, ServedAlone, SingleMatchServed, givenBy, ManySideApart}
+use Rattle.semantics.specs.Call.{verdict, concluded, fit}
+use Rattle.theorems.specs.Claims.Partition.{isRefused, seriesIn}
+use Rattle.theorems.specs.Claims.Prometheus.{readingAt, In, afterDrop, joinedSeries, matchesOf, IsJoin, ManySide, Served, EveryMatchServed, onPoint, ServedAlone, SingleMatchServed, givenBy, ManySideApart, Answers, AnswersVerdict}
+use Rattle.theorems.specs.Dealing.Fitting.{Fits, fits-fit, Way, fine, too-big, no-room, fit-way}
+use Rattle.theorems.specs.Partition.{taken-call}
 use Rattle.theorems.specs.Laws.Order.{After, Ascending, placed-ascending}
 
 -- members of lists
@@ -354,7 +357,7 @@ module _ (q : Query) (many : Side) (j : IsJoin q many) (ls rs : List Series) (l 
       let g = group-event (joinWork q many (s .series)) (pairs (joinLabels q) (s .series) ms) (pair o) (in-map pair h) in
       let f = from-map pair (g .earliest) ms (g .member) in
       let v = answer-given (joinWork q many (s .series)) (g .earliest .series) (record { producer = s .place; earliest = g .earliest .place }) (g .event) (events q rule xs) l (g .sort)
-        (in-events (record { rank = g .earliest .place; what = g .event }) (g .emitted)) settled-events in
+      (in-events (record { rank = g .earliest .place; what = g .event }) (g .emitted)) settled-events in
       record {
         earliest = f .source;
         given = joinWork q many (s .series) (v .series);
@@ -393,7 +396,7 @@ pub single-match-served : SingleMatchServed
 single-match-served q many j ls rs l e s m o h =
     let c : Placed = record { place = o .place; series = joinLabels q (s .series) (o .series) } in
     let i = in-events q many j ls rs l e s m (record { rank = o .place; what = good (joinWork q many (s .series) (c .series)) })
-      (rw (ap (λ (ms : List Placed). groups twoOverlaps (joinWork q many (s .series)) (pairs (joinLabels q) (s .series) ms)) h ∙ grouped-one (joinWork q many (s .series)) c) (List·Memᴰ·head refl)) in
+    (rw (ap (λ (ms : List Placed). groups twoOverlaps (joinWork q many (s .series)) (pairs (joinLabels q) (s .series) ms)) h ∙ grouped-one (joinWork q many (s .series)) c) (List·Memᴰ·head refl)) in
     let es = events q (rule q many j ls rs l e s m) (placed ls rs) in
     let a = answered es l (settled-events q many j ls rs l e s m) in
     record {
@@ -457,10 +460,6 @@ module _ (g : Placed → List (Ranked Place Event)) where
   given-none p [] a = refl
   given-none p (x ∷ xs) a = given-split p x xs ∙ cc (given-other p (x .place) (g x) (apart p (x .place) (a .0 .0) .1), given-none p xs (a .1))
 
-  append-nil : {A : Type 0} (l : List A) → l ++ [] ≡ l
-  append-nil [] = refl
-  append-nil (x ∷ l) = rw (append-nil l)
-
   given-one : (s : Placed) (xs : List Placed) → Ascending xs → In s xs → givenBy (s .place) (goods (produced xs)) ≡ goods (producedBy (s .place) (g s))
   given-one s [] a h = absurd (List·Memᴰ·not-nil h)
   given-one s (x ∷ xs) a h = go (given-one s xs (a .1)) (List·Memᴰ·cases-cons h)
@@ -484,3 +483,23 @@ many-side-apart q many j ls rs ls′ rs′ o l l′ e e′ s side h h′ =
     given-is q (ruleOf q (kindOf (q .operator)) (look (kindOf (q .operator)) ls rs)) ls rs l e s h
     ∙ ap goods (emits-same q many (j .grouped) (kindOf (q .operator)) (j .scalar) (j .carried) _ _ (placed ls rs) (placed ls′ rs′) o s side)
     ∙ sym (given-is q (ruleOf q (kindOf (q .operator)) (look (kindOf (q .operator)) ls′ rs′)) ls′ rs′ l′ e′ s h′)
+
+-- calls and verdicts
+
+true-false : {X : Type 0} → true ≡ false → X
+true-false e = absurd (false≢true (sym e))
+
+module _ (a b : ℕ) (q : Query) (ls rs : List Series) (shape : Shape) where
+  fitted : (l : List (Ranked Rank Series)) → verdict q ls rs ≡ answer l → Way a b shape (seriesIn l) (fit a b shape (seriesIn l)) → isRefused (fit a b shape (seriesIn l)) ≡ false → Answers q ls rs shape (fit a b shape (seriesIn l))
+  fitted l v (fine h) e = record { l = l; verdict-is = v; is = fits-fit a b shape (seriesIn l) h }
+  fitted l v (too-big w) e = true-false (rw w at e)
+  fitted l v (no-room w) e = true-false (rw w at e)
+
+  concluded-answers : (v : Verdict) → verdict q ls rs ≡ v → isRefused (concluded a b shape v) ≡ false → Answers q ls rs shape (concluded a b shape v)
+  concluded-answers (answer l) h e = fitted l h (fit-way a b shape (seriesIn l)) e
+  concluded-answers (duplicate x) h e = true-false e
+
+pub answers-verdict : AnswersVerdict
+answers-verdict s ll lr rl rr q shape ls rs t a b e =
+    let c = taken-call s ll lr rl rr q shape ls rs t a b in
+    rw c (concluded-answers a b q ls rs shape (verdict q ls rs) refl (rw c at e))

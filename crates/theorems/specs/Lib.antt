@@ -5,3 +5,4 @@ pub mod Partition
 pub mod Valid
 pub mod Prometheus
 pub mod Joins
+pub mod Settled

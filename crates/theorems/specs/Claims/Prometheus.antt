@@ -18,7 +18,7 @@ use Rattle.semantics.specs.Events.{Ranked, Verdict, answer, ofKey}
 use Rattle.semantics.specs.Rules.{ofSide, other, hasReadings}
 use Rattle.semantics.specs.Binop.{joinLabels, joinWork}
 use Rattle.semantics.specs.Call.{Outcome, call, fit, verdict}
-use Rattle.theorems.specs.Claims.Partition.{Taken}
+use Rattle.theorems.specs.Claims.Partition.{Taken, isRefused, written, seriesIn}
 
 -- instant vectors
 
@@ -142,3 +142,14 @@ ManySideApart =
     → (ls rs ls′ rs′ : List Series) → ofSide (other many) (placed ls rs) ≡ ofSide (other many) (placed ls′ rs′)
     → (l l′ : List (Ranked Rank Series)) → verdict q ls rs ≡ answer l → verdict q ls′ rs′ ≡ answer l′
     → (s : Placed) → s .place .side ≡ many → In s (placed ls rs) → In s (placed ls′ rs′) → givenBy (s .place) l ≡ givenBy (s .place) l′
+
+-- What a call that answers writes are the series of its verdict, so that these claims are about calls.
+pub record Answers (q : Query) (ls rs : List Series) (shape : Shape) (outcome : Outcome) : Type 0 where
+  pub l : List (Ranked Rank Series)
+  pub verdict-is : verdict q ls rs ≡ answer l
+  pub is : outcome ≡ written shape (seriesIn l)
+
+abbrev pub AnswersVerdict : Type 0
+AnswersVerdict =
+    (s ll lr rl rr : List ℕ) (q : Query) (shape : Shape) (ls rs : List Series) → Taken s ll lr rl rr q shape ls rs
+    → (labelRoom room : ℕ) → isRefused (call s ll lr rl rr labelRoom room) ≡ false → Answers q ls rs shape (call s ll lr rl rr labelRoom room)
