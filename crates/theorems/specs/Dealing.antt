@@ -3,4 +3,3 @@ pub mod Numbers
 pub mod Fallback
 pub mod Verdicts
 pub mod Fitting
-pub mod Faults

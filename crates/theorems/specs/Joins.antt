@@ -24,10 +24,11 @@ use Rattle.semantics.specs.Events.{Duplicate, Event, good, bad, Ranked, mark, R
 use Rattle.semantics.specs.Rules.{onSide, other, ofSide, isFirst, Merged, nothing, one, clash, onMerged, withRow, mergedInto, absorbed, mergedIntoEarliest, pairs, sameEdited, alikeTo, worked, groupOf, groups, joined, hasReadings, dropping}
 use Rattle.semantics.specs.Binop.{joinLabels, joinRows, joinWork, matchedRule, Seen, ruleOf, look}
 use Rattle.semantics.specs.Call.{verdict, concluded, fit}
-use Rattle.theorems.specs.Claims.Partition.{isRefused, seriesIn}
+use Rattle.theorems.specs.Claims.Outcomes.{seriesIn}
+use Rattle.theorems.specs.Claims.Partition.{isRefused}
 use Rattle.theorems.specs.Claims.Prometheus.{readingAt, In, afterDrop, joinedSeries, matchesOf, IsJoin, ManySide, Served, EveryMatchServed, onPoint, ServedAlone, SingleMatchServed, givenBy, ManySideApart, Answers, AnswersVerdict}
 use Rattle.theorems.specs.Dealing.Fitting.{Fits, fits-fit, Way, fine, too-big, no-room, fit-way}
-use Rattle.theorems.specs.Partition.{taken-call}
+use Rattle.theorems.specs.Outcomes.{taken-call}
 use Rattle.theorems.specs.Laws.Order.{After, Ascending, placed-ascending}
 
 -- members of lists

@@ -1,3 +1,4 @@
+pub mod Faults
 pub mod Order
 pub mod Renumber
 pub mod Sound

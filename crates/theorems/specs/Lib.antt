@@ -1,5 +1,6 @@
 pub mod Claims
 pub mod Laws
+pub mod Outcomes
 pub mod Dealing
 pub mod Partition
 pub mod Valid

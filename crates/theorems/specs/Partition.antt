@@ -19,8 +19,9 @@ use Rattle.semantics.specs.Places.{Rank, rankBefore}
 use Rattle.semantics.specs.Events.{Ranked, Duplicate, Verdict, answer, duplicate}
 use Rattle.semantics.specs.Call.{Outcome, refused, answered, call, running, concluded, told, verdict, fit, sameShape, onVector, onQuery}
 use Rattle.theorems.specs.Claims.Dealing.{Rising, Renumber, movedRanked, movedRank, movedVerdict, Deal, secondPile, pick, pile, wholePlaces, Dealt, weave, earlierOf, mergedVerdict}
-use Rattle.theorems.specs.Claims.Partition.{Taken, callOn, pileCall, isRefused, refusedOtherwise, written, seriesIn, firstDuplicate, DuplicateOf, MergedAnswer, Splits, Partition, Sides, HasSides}
-use Rattle.theorems.specs.Dealing.Faults.{FaultFrom3To5, take-fault}
+use Rattle.theorems.specs.Claims.Partition.{callOn, pileCall, isRefused, refusedOtherwise, firstDuplicate, DuplicateOf, MergedAnswer, Splits, Partition, Sides, HasSides}
+use Rattle.theorems.specs.Claims.Outcomes.{Taken, written, seriesIn, OutcomeOf, number-1, number-2, left-3-to-5, right-3-to-5, number-6, number-7-or-8, number-9, number-10, vector-answered}
+use Rattle.theorems.specs.Outcomes.{every-outcome, taken-call}
 use Rattle.theorems.specs.Dealing.Verdicts.{pileVerdict, verdicts, verdict-rising}
 use Rattle.theorems.specs.Dealing.Fitting.{Fits, fits-fit, Way, fine, too-big, no-room, fit-way, length-weave, bytes-weave, fits-weave}
 
@@ -109,21 +110,6 @@ module _ (a b : ℕ) (shape : Shape) (ρ₁ ρ₂ : Renumber) where
         answers = λ e. not-false e;
       }
 
--- a call on taken sides
-
-same-shape : (shape : Shape) → sameShape shape shape ≡ true
-same-shape shape = eq-eqb (shape .points) (shape .points) refl
-
-run-taken : (a b : ℕ) (q : Query) (shape : Shape) (ls rs : List Series)
-    → running a b q (record { shape = shape; series = ls }) (record { shape = shape; series = rs }) ≡ concluded a b shape (verdict q ls rs)
-unfolding running
-run-taken a b q shape ls rs = rw (same-shape shape)
-
-pub taken-call : (s ll lr rl rr : List ℕ) (q : Query) (shape : Shape) (ls rs : List Series) → Taken s ll lr rl rr q shape ls rs → (a b : ℕ)
-    → call s ll lr rl rr a b ≡ concluded a b shape (verdict q ls rs)
-unfolding call
-taken-call s ll lr rl rr q shape ls rs t a b = rw (t .asked, t .lefts, t .rights) (run-taken a b q shape ls rs)
-
 -- the piles' sides are valid, so their encodings are taken
 
 pick-shorter : (d : ℕ → Bool) (bs : List Series) → length (pick d bs) ≤ length bs
@@ -184,48 +170,24 @@ partition s ll lr rl rr bl wl br wr q shape ls rs t deal d a b r =
     (splits a b shape (wholePlaces deal ls rs) (wholePlaces (secondPile deal) ls rs) (pileVerdict q deal ls rs) (pileVerdict q (secondPile deal) ls rs)
     (λ k e. verdict-rising q ls rs k (verdicts q deal ls rs d ∙ e)) (rw whole at r))
 
--- a call with no sides of one shape is refused by a number from 1 to 6
+-- a call that is not refused by a number from 1 to 6 has sides
 
-unequal : (m n : ℕ) → m < n → eqb m n ≡ false
-unequal m n h = cases (eqb m n) (λ e. absurd (let z = eqb-true m n e in omega (arith, z))) (λ e. e)
+otherwise : {X : Type 0} (n i j : ℕ) → n ≤ 6 → refusedOtherwise (refused n i j) ≡ false → X
+otherwise n i j h e = not-false (sym (rw (unequal n 7 (omega (arith, h)), unequal n 8 (omega (arith, h)))) ∙ e)
+  where
+    unequal : (m n : ℕ) → m < n → eqb m n ≡ false
+    unequal m n h = cases (eqb m n) (λ e. absurd (let z = eqb-true m n e in omega (arith, z))) (λ e. e)
 
-module _ (s ll lr rl rr : List ℕ) (a b : ℕ) where
-  shaped : (q : Query) (l r : Vector) → takeQuery s ≡ query q → takeVector 0 ll lr ≡ vector l → takeVector 1 rl rr ≡ vector r
-      → refusedOtherwise (running a b q l r) ≡ false → Sides s ll lr rl rr
-  unfolding running
-  shaped q l r hq hl hr e = go (sameShape (l .shape) (r .shape)) refl e
-    where
-      go : (t : Bool) → sameShape (l .shape) (r .shape) ≡ t → refusedOtherwise (cond t (concluded a b (l .shape) (verdict q (l .series) (r .series))) (refused 6 0 0)) ≡ false → Sides s ll lr rl rr
-      go false h e = not-false e
-      go true h e =
-          let z : r .shape ≡ l .shape = ap (λ (n : ℕ). record { points = n }) (sym (eqb-true (l .shape .points) (r .shape .points) h)) in
-          record {
-            q = q;
-            shape = l .shape;
-            ls = l .series;
-            rs = r .series;
-            taken = record { asked = hq; lefts = hl; rights = hr ∙ ap (λ (x : Shape). vector (record { shape = x; series = r .series })) z };
-          }
-
-  other-number : {X : Type 0} (n i j : ℕ) → (3 ≤ n) × (n ≤ 5) → refusedOtherwise (refused n i j) ≡ false → X
-  other-number n i j h e = not-false (sym (rw (unequal n 7 (omega (arith, h .1)), unequal n 8 (omega (arith, h .1)))) ∙ e)
-
-  on-right : (q : Query) (l : Vector) → takeQuery s ≡ query q → takeVector 0 ll lr ≡ vector l
-      → (w : TakenVector) → takeVector 1 rl rr ≡ w → FaultFrom3To5 w → refusedOtherwise (onVector w (λ r. running a b q l r)) ≡ false → Sides s ll lr rl rr
-  on-right q l hq hl (faulty n side i) h k e = other-number n side i k e
-  on-right q l hq hl (vector r) h k e = shaped q l r hq hl h e
-
-  on-left : (q : Query) → takeQuery s ≡ query q → (w : TakenVector) → takeVector 0 ll lr ≡ w → FaultFrom3To5 w
-      → refusedOtherwise (onVector w (λ l. onVector (takeVector 1 rl rr) (λ r. running a b q l r))) ≡ false → Sides s ll lr rl rr
-  on-left q hq (faulty n side i) h k e = other-number n side i k e
-  on-left q hq (vector l) h k e = on-right q l hq h (takeVector 1 rl rr) refl (take-fault 1 rl rr) e
-
-  on-query : (w : TakenQuery) → takeQuery s ≡ w
-      → refusedOtherwise (onQuery w (λ q. onVector (takeVector 0 ll lr) (λ l. onVector (takeVector 1 rl rr) (λ r. running a b q l r)))) ≡ false → Sides s ll lr rl rr
-  on-query badOperator h e = not-false e
-  on-query malformed h e = not-false e
-  on-query (query q) h e = on-left q h (takeVector 0 ll lr) refl (take-fault 0 ll lr) e
+sides : (s ll lr rl rr : List ℕ) (a b : ℕ) (o : Outcome) → OutcomeOf s ll lr rl rr a b o → refusedOtherwise o ≡ false → Sides s ll lr rl rr
+sides s ll lr rl rr a b o (number-1 e) r = not-false r
+sides s ll lr rl rr a b o (number-2 e) r = not-false r
+sides s ll lr rl rr a b o (left-3-to-5 q e n i h k f) r = otherwise n 0 i (omega (arith, k)) r
+sides s ll lr rl rr a b o (right-3-to-5 q e l g n i h k f) r = otherwise n 1 i (omega (arith, k)) r
+sides s ll lr rl rr a b o (number-6 q e l g x h f) r = not-false r
+sides s ll lr rl rr a b o (number-7-or-8 q shape ls rs t x e) r = record { q = q; shape = shape; ls = ls; rs = rs; taken = t }
+sides s ll lr rl rr a b o (number-9 q shape ls rs t l e f) r = record { q = q; shape = shape; ls = ls; rs = rs; taken = t }
+sides s ll lr rl rr a b o (number-10 q shape ls rs t l e f g) r = record { q = q; shape = shape; ls = ls; rs = rs; taken = t }
+sides s ll lr rl rr a b o (vector-answered q shape ls rs t l e f g) r = record { q = q; shape = shape; ls = ls; rs = rs; taken = t }
 
 pub has-sides : HasSides
-unfolding call
-has-sides s ll lr rl rr a b e = on-query s ll lr rl rr a b (takeQuery s) refl e
+has-sides s ll lr rl rr a b r = sides s ll lr rl rr a b (call s ll lr rl rr a b) (every-outcome s ll lr rl rr a b) r

@@ -22,10 +22,10 @@ use Rattle.semantics.specs.Rules.{plain, onSide, ofSide, optional, leftResult, 
 use Rattle.semantics.specs.Binop.{firstReading, isFound, someReading, setReading, pointwise, unlessOnlyMissing, staying, met, alone, unmatched, adds, ruleOf, look}
 use Rattle.semantics.specs.Call.{call, concluded, verdict, fit}
 use Rattle.theorems.specs.Claims.Dealing.{sameKeyOf}
-use Rattle.theorems.specs.Claims.Partition.{Taken, seriesIn}
+use Rattle.theorems.specs.Claims.Outcomes.{Taken, seriesIn}
 use Rattle.theorems.specs.Claims.Prometheus.{Element, readingAt, elementOf, instant, hasMatch, andOf, unlessOf, Reads, AndReads, UnlessReads}
 use Rattle.theorems.specs.Dealing.Fallback.{rights, rights-placed}
-use Rattle.theorems.specs.Partition.{taken-call}
+use Rattle.theorems.specs.Outcomes.{taken-call}
 
 -- whether a rule keeps the left reading, as a right series of the key has a reading or not
 abbrev keepsIf : SetRule → Bool → Bool

@@ -31,10 +31,12 @@ use Rattle.semantics.specs.Rules.{withRow, mergedInto}
 use Rattle.semantics.specs.Binop.{shouldResetMetricGroup, editedBy, adjustBinaryOpTags, paired, skipList, joinLabels, joinRows, joinWork, matchedRule, Found, firstReading, isFound, someReading, filledFrom, setReading, pointwise, unlessOnlyMissing, staying, met, alone, adds, Seen, unmatched, scalarSide, isBare, look, ruleOf}
 use Rattle.semantics.specs.Call.{Outcome, refused, answered, call, concluded, verdict, fit, overTags}
 use Rattle.theorems.specs.Laws.Sound.{Each, Keeps, Sure, Holds, run-holds, dropping-keeps, one-to-one-keeps, joined-keeps, set-rule-keeps}
-use Rattle.theorems.specs.Claims.Partition.{Taken, refusedOtherwise, written, seriesIn, Sides}
+use Rattle.theorems.specs.Claims.Outcomes.{Taken, written, seriesIn}
+use Rattle.theorems.specs.Claims.Partition.{refusedOtherwise, Sides}
 use Rattle.theorems.specs.Claims.Valid.{ValidAnswer, AnswersAreValid}
 use Rattle.theorems.specs.Dealing.Fitting.{Fits, fits-fit, Way, fine, too-big, no-room, fit-way}
-use Rattle.theorems.specs.Partition.{has-sides, taken-call, left-valid, right-valid}
+use Rattle.theorems.specs.Outcomes.{taken-call}
+use Rattle.theorems.specs.Partition.{has-sides, left-valid, right-valid}
 
 -- readings stay below 2^64
 

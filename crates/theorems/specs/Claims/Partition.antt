@@ -3,22 +3,17 @@ use Prim.Native.Nat.{ℕ, _+_}
 use mathlib.Core.Path.{_≡_}
 use mathlib.Core.Bool.{Bool, true, false, not, _||_, cond}
 use mathlib.Core.Option.{Option, none, some}
-use mathlib.Core.List.{List, [], _∷_, map}
+use mathlib.Core.List.{List}
 use lib.Dec.{eqb}
 use lib.ListN.{length}
 use Rattle.model.specs.Labels.{Bytes}
-use Rattle.model.specs.Query.{Query, query, takeQuery, left, right}
-use Rattle.model.specs.Vector.{Series, Shape, vector, takeVector, labelPart, labelBytes, readingsOf, Readings}
+use Rattle.model.specs.Query.{Query, left, right}
+use Rattle.model.specs.Vector.{Series, Shape, labelPart, labelBytes, readingsOf, Readings}
 use Rattle.semantics.specs.Places.{Rank, rankBefore}
 use Rattle.semantics.specs.Events.{Ranked, Duplicate, Verdict, answer, duplicate}
 use Rattle.semantics.specs.Call.{Outcome, refused, answered, verdict, told, concluded, call}
+use Rattle.theorems.specs.Claims.Outcomes.{Taken, written, seriesIn}
 use Rattle.theorems.specs.Claims.Dealing.{Rising, Renumber, movedVerdict, Deal, secondPile, pile, wholePlaces, Dealt, weave, earlierOf}
-
--- bytes and readings that are taken as a query and two sides of one shape
-pub record Taken (s ll lr rl rr : List ℕ) (q : Query) (shape : Shape) (ls rs : List Series) : Type 0 where
-  pub asked : takeQuery s ≡ query q
-  pub lefts : takeVector 0 ll lr ≡ vector (record { shape = shape; series = ls })
-  pub rights : takeVector 1 rl rr ≡ vector (record { shape = shape; series = rs })
 
 -- 01: Each pile's call has the whole call's query, p and lengths of output parts. A call on sides as they are encoded.
 abbrev pub callOn : List ℕ → Shape → List Series → List Series → ℕ → ℕ → Outcome
@@ -35,13 +30,6 @@ isRefused (answered n p x y) = false
 abbrev pub refusedOtherwise : Outcome → Bool
 refusedOtherwise (refused n i j) = not (eqb n 7 || eqb n 8)
 refusedOtherwise (answered n p x y) = false
-
--- an answer as it is written
-abbrev pub written : Shape → List Series → Outcome
-written shape ss = answered (length ss) (shape .points) (labelBytes ss) (readingsOf ss)
-
-abbrev pub seriesIn : List (Ranked Rank Series) → List Series
-seriesIn l = map (λ e. e .what) l
 
 -- the first of two verdicts' duplicates
 abbrev pub firstDuplicate : Verdict → Verdict → Option (Ranked Rank Duplicate)

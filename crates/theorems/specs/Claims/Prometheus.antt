@@ -18,7 +18,8 @@ use Rattle.semantics.specs.Events.{Ranked, Verdict, answer, ofKey}
 use Rattle.semantics.specs.Rules.{ofSide, other, hasReadings}
 use Rattle.semantics.specs.Binop.{joinLabels, joinWork}
 use Rattle.semantics.specs.Call.{Outcome, call, fit, verdict}
-use Rattle.theorems.specs.Claims.Partition.{Taken, isRefused, written, seriesIn}
+use Rattle.theorems.specs.Claims.Outcomes.{Taken, written, seriesIn}
+use Rattle.theorems.specs.Claims.Partition.{isRefused}
 
 -- instant vectors
 

@@ -16,7 +16,7 @@ use Rattle.semantics.specs.Places.{Rank, rankBefore}
 use Rattle.semantics.specs.Events.{Ranked}
 use Rattle.semantics.specs.Call.{Outcome, refused, answered, fit, overTags}
 use Rattle.theorems.specs.Claims.Dealing.{insert, weave}
-use Rattle.theorems.specs.Claims.Partition.{written, seriesIn}
+use Rattle.theorems.specs.Claims.Outcomes.{written, seriesIn}
 
 pub record Fits (labelRoom room : ℕ) (shape : Shape) (ss : List Series) : Type 0 where
   pub few : length ss ≤ maxSeries
