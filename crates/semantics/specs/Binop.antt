@@ -45,24 +45,30 @@ skipList on names = names
 skipList ignoring names = []
 
 -- 01: its name cleared where `should_reset_metric_group` says and its tags then set by `set_tags`.
--- The many-side labels edited from a one-side series, with the one-side row.
-unfoldable pub joinLabels : Query → Series → Series → Series
-joinLabels q m o =
-    record { labels = setTags (q .joinList) (skipList (q .matching) (q .matchingList)) (o .labels) (clearNameIf (shouldResetMetricGroup q) (m .labels)); row = o .row }
+-- The many-side labels m, edited from a one-side series' labels o.
+unfoldable pub joinedLabels : Query → Labels → Labels → Labels
+joinedLabels q m o = setTags (q .joinList) (skipList (q .matching) (q .matchingList)) o (clearNameIf (shouldResetMetricGroup q) m)
+
+-- a one-side series under the labels that it gives a many-side series
+abbrev pub joinedPair : Query → Series → Series → Series
+joinedPair q m o = record { labels = joinedLabels q (m .labels) (o .labels); row = o .row }
 
 -- 01: many side left for group_left, right for group_right; the left reading is the left operand in both
 abbrev pub joinRows : Side → (ℕ → ℕ → ℕ) → List ℕ → List ℕ → List ℕ
 joinRows left op m o = zipWith op m o
 joinRows right op m o = zipWith op o m
 
--- the operator on a many-side series and a pair of edited labels and merged one-side row
+-- the operator on a many-side series and a pair with the rows merged into it
 unfoldable pub joinWork : Query → Side → Series → Series → Series
 joinWork q many m c = record { labels = c .labels; row = joinRows many (scalarOp (q .operator) (q .bool)) (m .row) (c .row) }
 
--- 01 allows two overlaps on both paths
+-- the overlapping places that a merge allows, one-to-one and in joins
+unfoldable pub allowedOverlaps : Query → ℕ
+allowedOverlaps q = twoOverlaps
+
 abbrev pub matchedRule : Query → Join → Rule
-matchedRule q oneToOne = plain (Rules.oneToOne twoOverlaps (paired q))
-matchedRule q (group many) = joined twoOverlaps (joinLabels q) (joinWork q many) many
+matchedRule q oneToOne = plain (Rules.oneToOne (allowedOverlaps q) (paired q))
+matchedRule q (group many) = joined (allowedOverlaps q) (joinedPair q) (joinWork q many) many
 
 -- readings of set rules
 

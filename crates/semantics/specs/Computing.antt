@@ -8,9 +8,9 @@ use Rattle.model.specs.Edits.{isListed, tagsOn, tagsIgnoring, removeTagsOn, rem
 use Rattle.model.specs.Query.{keyOf, sameKey, namesIn, listIn, takeQuery}
 use Rattle.model.specs.Vector.{labelBytes, readingsOf, labelPart, recordsIn, seriesOf, takeVector}
 use Rattle.semantics.specs.Rules.{mergedInto, sameEdited, groups, hasReadings}
-use Rattle.semantics.specs.Binop.{adjustBinaryOpTags, paired, joinLabels, joinWork, firstReading, someReading, met}
+use Rattle.semantics.specs.Binop.{adjustBinaryOpTags, paired, joinedLabels, joinWork, allowedOverlaps, firstReading, someReading, met}
 use Rattle.semantics.specs.Call.{verdict, fit, running, call}
 
 unfoldable pub computing : Unit {0}
-unfolding nanBits toBits ofBits add sub mul div rem lt le eq missing calculated equals holds compared scalarOp onlyMissing zipWith overlaps overwritten merged sameBytes below ascending valueOf sameTags readField decodeTags decode encodeTags encode isListed tagsOn tagsIgnoring removeTagsOn removeTagsIgnoring insertTag withoutTag setListed copyTags setTags keyOf sameKey namesIn listIn takeQuery labelBytes readingsOf labelPart recordsIn seriesOf takeVector mergedInto sameEdited groups hasReadings adjustBinaryOpTags paired joinLabels joinWork firstReading someReading met verdict fit running call
+unfolding nanBits toBits ofBits add sub mul div rem lt le eq missing calculated equals holds compared scalarOp onlyMissing zipWith overlaps overwritten merged sameBytes below ascending valueOf sameTags readField decodeTags decode encodeTags encode isListed tagsOn tagsIgnoring removeTagsOn removeTagsIgnoring insertTag withoutTag setListed copyTags setTags keyOf sameKey namesIn listIn takeQuery labelBytes readingsOf labelPart recordsIn seriesOf takeVector mergedInto sameEdited groups hasReadings adjustBinaryOpTags paired joinedLabels joinWork allowedOverlaps firstReading someReading met verdict fit running call
 computing = tt

@@ -13,7 +13,7 @@ use Rattle.operator.specs.Kinds.{Kind, arithmetic, comparison, setRule, fallbac
 use Rattle.operator.specs.Operators.{joinsSets, runs}
 use Rattle.model.specs.Lists.{cases, keep, All, gather}
 use Rattle.model.specs.Reading.{noReading, scalarOp}
-use Rattle.model.specs.Row.{zipWith, merged, twoOverlaps}
+use Rattle.model.specs.Row.{zipWith, merged}
 use Rattle.model.specs.Labels.{sameTags}
 use Rattle.model.specs.Query.{Query, sameKey, Side, left, right, Join, oneToOne, group}
 use Rattle.model.specs.Vector.{Series, Shape}
@@ -22,7 +22,7 @@ use Rattle.model.specs.Laws.Tags.{same-tags-is, same-tags-refl}
 use Rattle.semantics.specs.Places.{Place, Placed, placed, samePlace, before, earlier, alongside, Rank}
 use Rattle.semantics.specs.Events.{Duplicate, Event, good, bad, Ranked, mark, Rule, Verdict, answer, duplicate, ofKey, producedBy, emission, events, front, settle, run}
 use Rattle.semantics.specs.Rules.{onSide, other, ofSide, isFirst, Merged, nothing, one, clash, onMerged, withRow, mergedInto, absorbed, mergedIntoEarliest, pairs, sameEdited, alikeTo, worked, groupOf, groups, joined, hasReadings, dropping}
-use Rattle.semantics.specs.Binop.{joinLabels, joinRows, joinWork, matchedRule, Seen, ruleOf, look}
+use Rattle.semantics.specs.Binop.{joinedLabels, joinedPair, joinRows, joinWork, allowedOverlaps, matchedRule, Seen, ruleOf, look}
 use Rattle.semantics.specs.Call.{verdict, concluded, fit}
 use Rattle.theorems.specs.Claims.Outcomes.{seriesIn}
 use Rattle.theorems.specs.Claims.Partition.{isRefused}
@@ -181,15 +181,15 @@ labelled-as b c (one d) e h = h ∙ e
 labelled-as b c (clash d) e h = tt
 
 -- merging keeps the labels of the series merged into
-absorbed-labelled : (k : Placed) (xs : List Placed) (b : Series) → Labelled b (absorbed twoOverlaps k b xs)
+absorbed-labelled : (n : ℕ) (k : Placed) (xs : List Placed) (b : Series) → Labelled b (absorbed n k b xs)
 unfolding Labelled mergedInto
-absorbed-labelled k [] b = refl
-absorbed-labelled k (x ∷ xs) b = into (absorbed-labelled k xs) (merged twoOverlaps (b .row) (x .series .row))
+absorbed-labelled n k [] b = refl
+absorbed-labelled n k (x ∷ xs) b = into (absorbed-labelled n k xs) (merged n (b .row) (x .series .row))
   where
-    into : ((c : Series) → Labelled c (absorbed twoOverlaps k c xs)) → (o : Option (List ℕ))
-        → Labelled b (onMerged (withRow b o) (clash (record { kept = k .place; failed = x .place })) (λ c. absorbed twoOverlaps k c xs))
+    into : ((c : Series) → Labelled c (absorbed n k c xs)) → (o : Option (List ℕ))
+        → Labelled b (onMerged (withRow b o) (clash (record { kept = k .place; failed = x .place })) (λ c. absorbed n k c xs))
     into ih none = tt
-    into ih (some r) = labelled-as b (record { labels = b .labels; row = r }) (absorbed twoOverlaps k (record { labels = b .labels; row = r }) xs) refl (ih (record { labels = b .labels; row = r }))
+    into ih (some r) = labelled-as b (record { labels = b .labels; row = r }) (absorbed n k (record { labels = b .labels; row = r }) xs) refl (ih (record { labels = b .labels; row = r }))
 
 -- an event of a group: an answer series with these labels, or a duplicate
 data EventOf (work : Series → Series) (b : Series) : Event → Type 0 where
@@ -208,13 +208,13 @@ worked-event work b (one c) h = record { event = good (work c); is = refl; sort 
 worked-event work b (clash d) h = record { event = bad d; is = refl; sort = failed d }
 
 -- the group that a pair belongs to has an event, by its earliest pair, of equal edited tags
-record GroupEvent (work : Series → Series) (cs : List Placed) (c : Placed) : Type 0 where
+record GroupEvent (n : ℕ) (work : Series → Series) (cs : List Placed) (c : Placed) : Type 0 where
   earliest : Placed
   member : In earliest cs
   tags : earliest .series .labels .tags ≡ c .series .labels .tags
   event : Event
   sort : EventOf work (earliest .series) event
-  emitted : In (record { rank = earliest .place; what = event }) (groups twoOverlaps work cs)
+  emitted : In (record { rank = earliest .place; what = event }) (groups n work cs)
 
 edited-refl : (b : Series) → sameEdited b b ≡ true
 unfolding sameEdited
@@ -228,22 +228,22 @@ alike-same : (c e : Placed) (cs : List Placed) → e .series .labels .tags ≡ c
 unfolding sameEdited
 alike-same c e cs h = ap (λ ts. keep (λ x. sameTags ts (x .series .labels .tags)) cs) h
 
-group-event : (work : Series → Series) (cs : List Placed) (c : Placed) → In c cs → GroupEvent work cs c
+group-event : (n : ℕ) (work : Series → Series) (cs : List Placed) (c : Placed) → In c cs → GroupEvent n work cs c
 unfolding groups
-group-event work cs c h =
+group-event n work cs c h =
     let f = first-kept (λ x. sameEdited (c .series) (x .series)) c cs h (edited-refl (c .series)) in
     let e = f .first in
     let tags = edited-is (c .series) (e .series) (f .passes) in
     let group : alikeTo e cs ≡ e ∷ f .rest = alike-same c e cs tags ∙ f .is in
-    let w = worked-event work (e .series) (absorbed twoOverlaps e (e .series) (f .rest)) (absorbed-labelled e (f .rest) (e .series)) in
-    let o : groupOf twoOverlaps work cs e ≡ w .event ∷ [] = rw (group, same-place-refl (e .place)) (w .is) in
+    let w = worked-event work (e .series) (absorbed n e (e .series) (f .rest)) (absorbed-labelled n e (f .rest) (e .series)) in
+    let o : groupOf n work cs e ≡ w .event ∷ [] = rw (group, same-place-refl (e .place)) (w .is) in
     record {
       earliest = e;
       member = f .member;
       tags = tags;
       event = w .event;
       sort = w .sort;
-      emitted = in-gather (λ x. mark (x .place) (groupOf twoOverlaps work cs x)) cs (f .member) (rw o (List·Memᴰ·head refl));
+      emitted = in-gather (λ x. mark (x .place) (groupOf n work cs x)) cs (f .member) (rw o (List·Memᴰ·head refl));
     }
 
 -- what a many-side series of a join emits
@@ -253,7 +253,7 @@ on-same left = refl
 on-same right = refl
 
 abbrev gives : Query → Side → Placed → List Placed → List (Ranked Rank Event)
-gives q many s ms = producedBy (s .place) (groups twoOverlaps (joinWork q many (s .series)) (pairs (joinLabels q) (s .series) ms))
+gives q many s ms = producedBy (s .place) (groups (allowedOverlaps q) (joinWork q many (s .series)) (pairs (joinedPair q) (s .series) ms))
 
 record Emits (q : Query) (many : Side) (k : Kind) (c : Seen) (xs : List Placed) (s : Placed) : Type 0 where
   member : In s xs
@@ -261,7 +261,7 @@ record Emits (q : Query) (many : Side) (k : Kind) (c : Seen) (xs : List Placed) 
 
 module _ (q : Query) (many : Side) (grouped : q .join ≡ group many) where
   rule-of-many : (s : Placed) (ys : List Placed) → s .place .side ≡ many
-      → matchedRule q (q .join) s ys ≡ groups twoOverlaps (joinWork q many (s .series)) (pairs (joinLabels q) (s .series) (ofSide (other many) ys))
+      → matchedRule q (q .join) s ys ≡ groups (allowedOverlaps q) (joinWork q many (s .series)) (pairs (joinedPair q) (s .series) (ofSide (other many) ys))
   rule-of-many s ys e = rw (grouped, e, on-same many)
 
   emits : (k : Kind) → joinsSets k ≡ false → runs k ≡ true → (c : Seen) (xs : List Placed) (s : Placed) → s .place .side ≡ many → In s (afterDrop k xs) → Emits q many k c xs s
@@ -272,7 +272,7 @@ module _ (q : Query) (many : Side) (grouped : q .join ≡ group many) where
         is = ap (producedBy (s .place))
             (ap (λ t. cond t (matchedRule q (q .join) s (keep (λ x. hasReadings (x .series)) (ofKey q (s .series .labels) xs))) []) (m .passes)
             ∙ rule-of-many s (keep (λ x. hasReadings (x .series)) (ofKey q (s .series .labels) xs)) e
-            ∙ ap (λ ys. groups twoOverlaps (joinWork q many (s .series)) (pairs (joinLabels q) (s .series) (ofSide (other many) ys))) (keep-swap _ _ xs));
+            ∙ ap (λ ys. groups (allowedOverlaps q) (joinWork q many (s .series)) (pairs (joinedPair q) (s .series) (ofSide (other many) ys))) (keep-swap _ _ xs));
       }
   emits (comparison t) j r c xs s e h = record { member = h; is = ap (producedBy (s .place)) (rule-of-many s (ofKey q (s .series .labels) xs) e) }
   emits (setRule k) j r c xs s e h = absurd (false≢true (sym j))
@@ -285,22 +285,22 @@ module _ (q : Query) (many : Side) (grouped : q .join ≡ group many) where
   emits-same (arithmetic a) j r c c′ xs xs′ o s e = ap (λ l. producedBy (s .place) (cond (hasReadings (s .series)) l [])) (one xs ∙ ap rows o ∙ sym (one xs′))
     where
       rows : List Placed → List (Ranked Place Event)
-      rows ys = groups twoOverlaps (joinWork q many (s .series)) (pairs (joinLabels q) (s .series) (keep (λ x. hasReadings (x .series)) (ofKey q (s .series .labels) ys)))
+      rows ys = groups (allowedOverlaps q) (joinWork q many (s .series)) (pairs (joinedPair q) (s .series) (keep (λ x. hasReadings (x .series)) (ofKey q (s .series .labels) ys)))
 
       one : (ys : List Placed) → matchedRule q (q .join) s (keep (λ x. hasReadings (x .series)) (ofKey q (s .series .labels) ys)) ≡ rows (ofSide (other many) ys)
       one ys =
           rule-of-many s (keep (λ x. hasReadings (x .series)) (ofKey q (s .series .labels) ys)) e
-          ∙ ap (λ l. groups twoOverlaps (joinWork q many (s .series)) (pairs (joinLabels q) (s .series) l))
+          ∙ ap (λ l. groups (allowedOverlaps q) (joinWork q many (s .series)) (pairs (joinedPair q) (s .series) l))
           (keep-swap _ _ (ofKey q (s .series .labels) ys) ∙ ap (keep (λ x. hasReadings (x .series))) (keep-swap _ _ ys))
   emits-same (comparison t) j r c c′ xs xs′ o s e = ap (producedBy (s .place)) (one xs ∙ ap rows o ∙ sym (one xs′))
     where
       rows : List Placed → List (Ranked Place Event)
-      rows ys = groups twoOverlaps (joinWork q many (s .series)) (pairs (joinLabels q) (s .series) (ofKey q (s .series .labels) ys))
+      rows ys = groups (allowedOverlaps q) (joinWork q many (s .series)) (pairs (joinedPair q) (s .series) (ofKey q (s .series .labels) ys))
 
       one : (ys : List Placed) → matchedRule q (q .join) s (ofKey q (s .series .labels) ys) ≡ rows (ofSide (other many) ys)
       one ys =
           rule-of-many s (ofKey q (s .series .labels) ys) e
-          ∙ ap (λ l. groups twoOverlaps (joinWork q many (s .series)) (pairs (joinLabels q) (s .series) l)) (keep-swap _ _ ys)
+          ∙ ap (λ l. groups (allowedOverlaps q) (joinWork q many (s .series)) (pairs (joinedPair q) (s .series) l)) (keep-swap _ _ ys)
   emits-same (setRule k) j r c c′ xs xs′ o s e = absurd (false≢true (sym j))
   emits-same (fallback k) j r c c′ xs xs′ o s e = absurd (false≢true (sym j))
   emits-same notCarried j r c c′ xs xs′ o s e = absurd (false≢true r)
@@ -342,7 +342,7 @@ module _ (q : Query) (many : Side) (j : IsJoin q many) (ls rs : List Series) (l 
   emission-is : Emits q many k (look k ls rs) xs s
   emission-is = emits q many (j .grouped) k (j .scalar) (j .carried) (look k ls rs) xs s (m .side) (m .stands)
 
-  in-events : (x : Ranked Place Event) → In x (groups twoOverlaps (joinWork q many (s .series)) (pairs (joinLabels q) (s .series) ms))
+  in-events : (x : Ranked Place Event) → In x (groups (allowedOverlaps q) (joinWork q many (s .series)) (pairs (joinedPair q) (s .series) ms))
       → In (record { rank = record { producer = s .place; earliest = x .rank }; what = x .what }) (events q rule xs)
   in-events x h =
       in-gather (emission q rule xs) xs (emission-is .member)
@@ -354,8 +354,8 @@ module _ (q : Query) (many : Side) (j : IsJoin q many) (ls rs : List Series) (l 
 
   served-by : (o : Placed) → In o ms → Served q many (joinedSeries q ls rs) s o l
   served-by o h =
-      let pair : Placed → Placed = λ x. record { place = x .place; series = joinLabels q (s .series) (x .series) } in
-      let g = group-event (joinWork q many (s .series)) (pairs (joinLabels q) (s .series) ms) (pair o) (in-map pair h) in
+      let pair : Placed → Placed = λ x. record { place = x .place; series = joinedPair q (s .series) (x .series) } in
+      let g = group-event (allowedOverlaps q) (joinWork q many (s .series)) (pairs (joinedPair q) (s .series) ms) (pair o) (in-map pair h) in
       let f = from-map pair (g .earliest) ms (g .member) in
       let v = answer-given (joinWork q many (s .series)) (g .earliest .series) (record { producer = s .place; earliest = g .earliest .place }) (g .event) (events q rule xs) l (g .sort)
       (in-events (record { rank = g .earliest .place; what = g .event }) (g .emitted)) settled-events in
@@ -373,9 +373,9 @@ every-match-served q many j ls rs l e s m o h = served-by q many j ls rs l e s m
 
 -- a single match
 
-grouped-one : (work : Series → Series) (c : Placed) → groups twoOverlaps work (c ∷ []) ≡ record { rank = c .place; what = good (work (c .series)) } ∷ []
+grouped-one : (n : ℕ) (work : Series → Series) (c : Placed) → groups n work (c ∷ []) ≡ record { rank = c .place; what = good (work (c .series)) } ∷ []
 unfolding groups
-grouped-one work c = rw (edited-refl (c .series), same-place-refl (c .place))
+grouped-one n work c = rw (edited-refl (c .series), same-place-refl (c .place))
 
 zip-at : (op : ℕ → ℕ → ℕ) (x y : List ℕ) (i : ℕ) → i < length x → i < length y → getD (zipWith op x y) i noReading ≡ op (getD x i noReading) (getD y i noReading)
 unfolding zipWith
@@ -389,21 +389,21 @@ rows-at left op m o i h g = zip-at op m o i h g
 rows-at right op m o i h g = zip-at op o m i g h
 
 alone-readings : (q : Query) (many : Side) (b c : Series) (i : ℕ) → i < length (b .row) → i < length (c .row)
-    → readingAt i (joinWork q many b (joinLabels q b c)) ≡ onPoint many (scalarOp (q .operator) (q .bool)) (readingAt i b) (readingAt i c)
-unfolding joinWork joinLabels
+    → readingAt i (joinWork q many b (joinedPair q b c)) ≡ onPoint many (scalarOp (q .operator) (q .bool)) (readingAt i b) (readingAt i c)
+unfolding joinWork
 alone-readings q many b c i h g = rows-at many (scalarOp (q .operator) (q .bool)) (b .row) (c .row) i h g
 
 pub single-match-served : SingleMatchServed
 single-match-served q many j ls rs l e s m o h =
-    let c : Placed = record { place = o .place; series = joinLabels q (s .series) (o .series) } in
+    let c : Placed = record { place = o .place; series = joinedPair q (s .series) (o .series) } in
     let i = in-events q many j ls rs l e s m (record { rank = o .place; what = good (joinWork q many (s .series) (c .series)) })
-    (rw (ap (λ (ms : List Placed). groups twoOverlaps (joinWork q many (s .series)) (pairs (joinLabels q) (s .series) ms)) h ∙ grouped-one (joinWork q many (s .series)) c) (List·Memᴰ·head refl)) in
+    (rw (ap (λ (ms : List Placed). groups (allowedOverlaps q) (joinWork q many (s .series)) (pairs (joinedPair q) (s .series) ms)) h ∙ grouped-one (allowedOverlaps q) (joinWork q many (s .series)) c) (List·Memᴰ·head refl)) in
     let es = events q (rule q many j ls rs l e s m) (placed ls rs) in
     let a = answered es l (settled-events q many j ls rs l e s m) in
     record {
       given = joinWork q many (s .series) (c .series);
       answers = rw (a .is) (in-goods (record { producer = s .place; earliest = o .place }) (joinWork q many (s .series) (c .series)) es i);
-      labels = work-labels q many (s .series) (joinLabels q (s .series) (o .series));
+      labels = work-labels q many (s .series) (joinedPair q (s .series) (o .series));
       readings = alone-readings q many (s .series) (o .series);
     }
 

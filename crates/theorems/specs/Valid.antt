@@ -16,7 +16,7 @@ use Rattle.operator.specs.Kinds.{Arithmetic, sum, difference, product, quotient
 use Rattle.model.specs.Limits.{maxTags, maxPoints}
 use Rattle.model.specs.Lists.{cases, All}
 use Rattle.model.specs.Reading.{missing, noReading, calculated, holds, oneOrZero, compared, scalarOfKind, scalarOp}
-use Rattle.model.specs.Row.{onlyMissing, zipWith, merged, overwritten, overlaps, twoOverlaps}
+use Rattle.model.specs.Row.{onlyMissing, zipWith, merged, overwritten, overlaps}
 use Rattle.model.specs.Labels.{Labels, Bytes, WellFormed}
 use Rattle.model.specs.Edits.{Names}
 use Rattle.model.specs.Query.{Query, Matching, all, on, ignoring, Join, oneToOne, group, Side, left, right}
@@ -28,7 +28,7 @@ use Rattle.model.specs.Laws.Vector.{take-valid, readings-length, labels-bytes, 
 use Rattle.semantics.specs.Places.{Place, Placed, numbered, placed, Rank}
 use Rattle.semantics.specs.Events.{Ranked, Verdict, answer, duplicate}
 use Rattle.semantics.specs.Rules.{withRow, mergedInto}
-use Rattle.semantics.specs.Binop.{shouldResetMetricGroup, editedBy, adjustBinaryOpTags, paired, skipList, joinLabels, joinRows, joinWork, matchedRule, Found, firstReading, isFound, someReading, filledFrom, setReading, pointwise, unlessOnlyMissing, staying, met, alone, adds, Seen, unmatched, scalarSide, isBare, look, ruleOf}
+use Rattle.semantics.specs.Binop.{shouldResetMetricGroup, editedBy, adjustBinaryOpTags, paired, skipList, joinedLabels, joinedPair, joinRows, joinWork, allowedOverlaps, matchedRule, Found, firstReading, isFound, someReading, filledFrom, setReading, pointwise, unlessOnlyMissing, staying, met, alone, adds, Seen, unmatched, scalarSide, isBare, look, ruleOf}
 use Rattle.semantics.specs.Call.{Outcome, refused, answered, call, concluded, verdict, fit, overTags}
 use Rattle.theorems.specs.Laws.Sound.{Each, Keeps, Sure, Holds, run-holds, dropping-keeps, one-to-one-keeps, joined-keeps, set-rule-keeps}
 use Rattle.theorems.specs.Claims.Outcomes.{Taken, written, seriesIn}
@@ -135,9 +135,9 @@ record Proper (p : ℕ) (b : Series) : Type 0 where
   row : GoodRow p (b .row)
 
 module _ (p : ℕ) where
-  merge-sure : (b c : Series) → Proper p b → Proper p c → Sure (Proper p) (mergedInto twoOverlaps b c)
+  merge-sure : (n : ℕ) (b c : Series) → Proper p b → Proper p c → Sure (Proper p) (mergedInto n b c)
   unfolding mergedInto merged
-  merge-sure b c h k = go (leb (length (b .row)) 2 || ltb twoOverlaps (overlaps (b .row) (c .row)))
+  merge-sure n b c h k = go (leb (length (b .row)) 2 || ltb n (overlaps (b .row) (c .row)))
     where
       go : (t : Bool) → Sure (Proper p) (withRow b (cond t none (some (overwritten (b .row) (c .row)))))
       go true = tt
@@ -160,8 +160,8 @@ module _ (p : ℕ) where
         row = zip-good p (q .operator) (q .bool) (b .row) (c .row) (h .row) (k .row);
       }
 
-  joined-proper : (q : Query) (b c : Series) → Proper p b → Proper p c → Proper p (joinLabels q b c)
-  unfolding joinLabels
+  joined-proper : (q : Query) (b c : Series) → Proper p b → Proper p c → Proper p (joinedPair q b c)
+  unfolding joinedLabels
   joined-proper q b c h k =
       record {
         labels = set-tags-well (q .joinList) (skipList (q .matching) (q .matchingList)) (c .labels) _ (k .labels) (clear-well (shouldResetMetricGroup q) (b .labels) (h .labels));
@@ -177,9 +177,9 @@ module _ (p : ℕ) where
   worked-proper q many b c h k = record { labels = k .labels; row = rows-good many (q .operator) (q .bool) (b .row) (c .row) (h .row) (k .row) }
 
   matched-keeps : (q : Query) (j : Join) → Keeps (Proper p) (matchedRule q j)
-  matched-keeps q oneToOne = one-to-one-keeps (Proper p) twoOverlaps merge-sure (paired q) (paired-proper q)
+  matched-keeps q oneToOne = one-to-one-keeps (Proper p) (allowedOverlaps q) (merge-sure (allowedOverlaps q)) (paired q) (paired-proper q)
   matched-keeps q (group many) =
-      joined-keeps (Proper p) twoOverlaps merge-sure (joinLabels q) (joined-proper q) (joinWork q many) (worked-proper q many) many
+      joined-keeps (Proper p) (allowedOverlaps q) (merge-sure (allowedOverlaps q)) (joinedPair q) (joined-proper q) (joinWork q many) (worked-proper q many) many
 
   FoundWord : Option Found → Type 0
   FoundWord none = Unit {0}

@@ -16,7 +16,7 @@ use Rattle.model.specs.Vector.{Series, Shape}
 use Rattle.semantics.specs.Places.{Place, Placed, placed, samePlace, Rank}
 use Rattle.semantics.specs.Events.{Ranked, Verdict, answer, ofKey}
 use Rattle.semantics.specs.Rules.{ofSide, other, hasReadings}
-use Rattle.semantics.specs.Binop.{joinLabels, joinWork}
+use Rattle.semantics.specs.Binop.{joinedLabels}
 use Rattle.semantics.specs.Call.{Outcome, call, fit, verdict}
 use Rattle.theorems.specs.Claims.Outcomes.{Taken, written, seriesIn}
 use Rattle.theorems.specs.Claims.Partition.{isRefused}
@@ -105,8 +105,8 @@ pub record Served (q : Query) (many : Side) (xs : List Placed) (s o : Placed) (l
   pub given : Series
   pub match : In earliest (matchesOf q many s xs)
   pub answers : In (record { rank = record { producer = s .place; earliest = earliest .place }; what = given }) l
-  pub labels : given .labels ≡ joinLabels q (s .series) (earliest .series) .labels
-  pub tags : given .labels .tags ≡ joinLabels q (s .series) (o .series) .labels .tags
+  pub labels : given .labels ≡ joinedLabels q (s .series .labels) (earliest .series .labels)
+  pub tags : given .labels .tags ≡ joinedLabels q (s .series .labels) (o .series .labels) .tags
 
 -- every many-side series whose key stands on the one side has an answer series for each distinct edited tag set
 abbrev pub EveryMatchServed : Type 0
@@ -123,7 +123,7 @@ onPoint right op m o = op o m
 pub record ServedAlone (q : Query) (many : Side) (s o : Placed) (l : List (Ranked Rank Series)) : Type 0 where
   pub given : Series
   pub answers : In (record { rank = record { producer = s .place; earliest = o .place }; what = given }) l
-  pub labels : given .labels ≡ joinLabels q (s .series) (o .series) .labels
+  pub labels : given .labels ≡ joinedLabels q (s .series .labels) (o .series .labels)
   pub readings : (i : ℕ) → i < length (s .series .row) → i < length (o .series .row)
       → readingAt i given ≡ onPoint many (scalarOp (q .operator) (q .bool)) (readingAt i (s .series)) (readingAt i (o .series))
 

@@ -4,14 +4,13 @@ use mathlib.Core.Path.{_≡_, refl, sym, ap, _∙_}
 use mathlib.Core.Bool.{Bool, true, false, not, _&&_}
 use mathlib.Core.List.{List, [], _∷_}
 use Rattle.operator.specs.Kinds.{Kind, arithmetic, comparison, setRule, fallback, notCarried, kindOf}
-use Rattle.model.specs.Row.{twoOverlaps}
 use Rattle.model.specs.Query.{Query, Side, left, right, Join, oneToOne, group}
 use Rattle.model.specs.Vector.{Series}
 use Rattle.semantics.specs.Places.{Place, placed, Rank, rankBefore}
 use Rattle.semantics.specs.Events.{Ranked, Verdict, answer, run, emission}
 use Rattle.semantics.specs.Rules as Rules
 use Rattle.semantics.specs.Rules.{setRuleOf}
-use Rattle.semantics.specs.Binop.{paired, joinLabels, joinWork, matchedRule, met, unmatched, adds, Seen, ruleOf, look}
+use Rattle.semantics.specs.Binop.{allowedOverlaps, paired, joinedPair, joinWork, matchedRule, met, unmatched, adds, Seen, ruleOf, look}
 use Rattle.semantics.specs.Call.{verdict}
 use Rattle.theorems.specs.Laws.Order.{Steady, plain-steady, dropping-steady, joined-steady, placed-ascending, events-orderly}
 use Rattle.theorems.specs.Laws.Renumber.{Natural, dropping-natural, one-to-one-natural, joined-natural, set-rule-natural, met-moved}
@@ -21,12 +20,12 @@ use Rattle.theorems.specs.Dealing.Numbers.{pilePlaced, apart-second, dea
 use Rattle.theorems.specs.Dealing.Fallback.{falls-same}
 
 matched-natural : (q : Query) (j : Join) → Natural (matchedRule q j)
-matched-natural q oneToOne = one-to-one-natural twoOverlaps (paired q)
-matched-natural q (group many) = joined-natural twoOverlaps (joinLabels q) (joinWork q many) many
+matched-natural q oneToOne = one-to-one-natural (allowedOverlaps q) (paired q)
+matched-natural q (group many) = joined-natural (allowedOverlaps q) (joinedPair q) (joinWork q many) many
 
 matched-steady : (q : Query) (j : Join) → Steady (matchedRule q j)
-matched-steady q oneToOne = plain-steady (Rules.oneToOne twoOverlaps (paired q))
-matched-steady q (group many) = joined-steady twoOverlaps (joinLabels q) (joinWork q many) many
+matched-steady q oneToOne = plain-steady (Rules.oneToOne (allowedOverlaps q) (paired q))
+matched-steady q (group many) = joined-steady (allowedOverlaps q) (joinedPair q) (joinWork q many) many
 
 rule-natural : (q : Query) (k : Kind) (c : Seen) → Natural (ruleOf q k c)
 rule-natural q (arithmetic a) c = dropping-natural (matched-natural q (q .join))
