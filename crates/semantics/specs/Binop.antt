@@ -1,10 +1,10 @@
 -- The rule of a query: what each operator does with a series and the series of its key. Assumes nothing.
-use Prim.Native.Nat.{ℕ, zero, suc}
+use Prim.Native.Nat.{ℕ, suc}
 use mathlib.Core.Bool.{Bool, true, false, not, _&&_, cond}
 use mathlib.Core.Option.{Option, none, some}
 use mathlib.Core.List.{List, [], _∷_}
 use lib.ListN.{getD}
-use Rattle.operator.specs.Kinds.{Kind, arithmetic, comparison, setRule, fallback, notCarried, SetRule, whereFound, whereNone, filled, kindOf}
+use Rattle.operator.specs.Kinds.{Kind, arithmetic, comparison, setRule, fallback, notCarried, SetRule, whereFound, whereNone, filled}
 use Rattle.operator.specs.Operators.{isComparison, isLogicalOp}
 use Rattle.model.specs.Lists.{isEmpty}
 use Rattle.model.specs.Reading.{missing, noReading, scalarOp}

@@ -1,6 +1,5 @@
 -- What rules emit, in answer order, and what it comes to. Assumes nothing.
-use mathlib.Core.Bool.{Bool, true, false, cond}
-use mathlib.Core.List.{List, [], _∷_, _++_, map}
+use mathlib.Core.List.{List, [], _∷_, map}
 use Rattle.model.specs.Lists.{keep, gather}
 use Rattle.model.specs.Labels.{Labels}
 use Rattle.model.specs.Query.{Query, sameKey}

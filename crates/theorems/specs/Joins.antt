@@ -1,7 +1,7 @@
 -- Group joins use up no one-side series: the claims are in Claims.Prometheus. Assumes nothing.
 use Prim.Native.Nat.{ℕ, zero, suc, _<_}
 use mathlib.Core.Path.{_≡_, refl, sym, ap, _∙_}
-use mathlib.Core.Bool.{Bool, true, false, not, cond, false≢true}
+use mathlib.Core.Bool.{Bool, true, false, cond, false≢true}
 use mathlib.Core.Option.{Option, none, some}
 use mathlib.Core.Logic.{_⊎_, inl, inr}
 use mathlib.Core.List.{List, [], _∷_, _++_, map, append-nil, List·Memᴰ·head, List·Memᴰ·tail, List·Memᴰ·not-nil, List·Memᴰ·cases-cons, Memᴰ·append-left, Memᴰ·append-right}
@@ -15,19 +15,19 @@ use Rattle.model.specs.Lists.{cases, keep, All, gather}
 use Rattle.model.specs.Reading.{noReading, scalarOp}
 use Rattle.model.specs.Row.{zipWith, merged}
 use Rattle.model.specs.Labels.{sameTags}
-use Rattle.model.specs.Query.{Query, sameKey, Side, left, right, Join, oneToOne, group}
+use Rattle.model.specs.Query.{Query, Side, left, right, group}
 use Rattle.model.specs.Vector.{Series, Shape}
 use Rattle.model.specs.Laws.Lists.{keep-append}
 use Rattle.model.specs.Laws.Tags.{same-tags-is, same-tags-refl}
 use Rattle.semantics.specs.Places.{Place, Placed, placed, samePlace, before, earlier, alongside, Rank}
 use Rattle.semantics.specs.Events.{Duplicate, Event, good, bad, Ranked, mark, Rule, Verdict, answer, duplicate, ofKey, producedBy, emission, events, front, settle, run}
-use Rattle.semantics.specs.Rules.{onSide, other, ofSide, isFirst, Merged, nothing, one, clash, onMerged, withRow, mergedInto, absorbed, mergedIntoEarliest, pairs, sameEdited, alikeTo, worked, groupOf, groups, joined, hasReadings, dropping}
-use Rattle.semantics.specs.Binop.{joinedLabels, joinedPair, joinRows, joinWork, allowedOverlaps, matchedRule, Seen, ruleOf, look}
+use Rattle.semantics.specs.Rules.{onSide, other, ofSide, Merged, nothing, one, clash, onMerged, withRow, mergedInto, absorbed, pairs, sameEdited, alikeTo, worked, groupOf, groups, hasReadings}
+use Rattle.semantics.specs.Binop.{joinedPair, joinRows, joinWork, allowedOverlaps, matchedRule, Seen, ruleOf, look}
 use Rattle.semantics.specs.Call.{verdict, concluded, fit}
 use Rattle.theorems.specs.Claims.Outcomes.{seriesIn}
 use Rattle.theorems.specs.Claims.Partition.{isRefused}
-use Rattle.theorems.specs.Claims.Prometheus.{readingAt, In, afterDrop, joinedSeries, matchesOf, IsJoin, ManySide, Served, EveryMatchServed, onPoint, ServedAlone, SingleMatchServed, givenBy, ManySideApart, Answers, AnswersVerdict}
-use Rattle.theorems.specs.Dealing.Fitting.{Fits, fits-fit, Way, fine, too-big, no-room, fit-way}
+use Rattle.theorems.specs.Claims.Prometheus.{readingAt, In, afterDrop, joinedSeries, matchesOf, IsJoin, ManySide, Served, EveryMatchServed, onPoint, SingleMatchServed, givenBy, ManySideApart, Answers, AnswersVerdict}
+use Rattle.theorems.specs.Dealing.Fitting.{fits-fit, Way, fine, too-big, no-room, fit-way}
 use Rattle.theorems.specs.Outcomes.{taken-call}
 use Rattle.theorems.specs.Laws.Order.{After, Ascending, placed-ascending}
 

@@ -1,8 +1,8 @@
 -- Each outcome of a call, under its condition: the claims are in Claims.Outcomes. Assumes nothing.
-use Prim.Native.Nat.{ℕ, _≤_}
+use Prim.Native.Nat.{ℕ}
 use mathlib.Core.Path.{_≡_, refl, sym, ap, _∙_}
 use mathlib.Core.Bool.{Bool, true, false, cond}
-use mathlib.Core.List.{List, [], _∷_}
+use mathlib.Core.List.{List}
 use borrow.Author.Tests.{eq-eqb, eqb-true}
 use Rattle.model.specs.Query.{Query, TakenQuery, query, badOperator, malformed, takeQuery}
 use Rattle.model.specs.Vector.{Series, Shape, Vector, TakenVector, vector, faulty, takeVector}

@@ -1,25 +1,24 @@
 -- Demand 3 proved: the claim is in Claims.Partition. Assumes nothing.
 use Prim.Native.Nat.{ℕ, zero, suc, _+_, _≤_, _<_}
 use mathlib.Core.Path.{_≡_, refl, sym, ap, _∙_}
-use mathlib.Core.Bool.{Bool, true, false, not, cond, _||_, false≢true}
-use mathlib.Core.Option.{Option, none, some}
-use mathlib.Core.List.{List, [], _∷_, _++_, map}
+use mathlib.Core.Bool.{Bool, true, false, _||_, false≢true}
+use mathlib.Core.List.{List, [], _∷_, map}
 use native.Mathlib.Omega.{arith}
 use lib.Dec.{eqb}
 use lib.ListN.{length, length-append}
-use borrow.Author.Tests.{eq-eqb, eqb-true}
+use borrow.Author.Tests.{eqb-true}
 use Rattle.model.specs.Lists.{cases, All}
 use Rattle.model.specs.Labels.{Bytes}
 use Rattle.model.specs.Record.{encode}
-use Rattle.model.specs.Query.{Query, TakenQuery, query, badOperator, malformed, takeQuery, Side, left, right}
-use Rattle.model.specs.Vector.{Series, Shape, Vector, TakenVector, vector, faulty, takeVector, labelPart, labelBytes, readingsOf, Readings, GoodSeries, Valid}
+use Rattle.model.specs.Query.{Query, left, right}
+use Rattle.model.specs.Vector.{Series, Shape, labelPart, labelBytes, readingsOf, Readings, GoodSeries, Valid}
 use Rattle.model.specs.Laws.Lists.{map-map}
 use Rattle.model.specs.Laws.Vector.{take-valid, taken-is}
 use Rattle.semantics.specs.Places.{Rank, rankBefore}
-use Rattle.semantics.specs.Events.{Ranked, Duplicate, Verdict, answer, duplicate}
-use Rattle.semantics.specs.Call.{Outcome, refused, answered, call, running, concluded, told, verdict, fit, sameShape, onVector, onQuery}
-use Rattle.theorems.specs.Claims.Dealing.{Rising, Renumber, movedRanked, movedRank, movedVerdict, Deal, secondPile, pick, pile, wholePlaces, Dealt, weave, earlierOf, mergedVerdict}
-use Rattle.theorems.specs.Claims.Partition.{callOn, pileCall, isRefused, refusedOtherwise, firstDuplicate, DuplicateOf, MergedAnswer, Splits, Partition, Sides, HasSides}
+use Rattle.semantics.specs.Events.{Ranked, Verdict, answer, duplicate}
+use Rattle.semantics.specs.Call.{Outcome, refused, call, concluded, fit}
+use Rattle.theorems.specs.Claims.Dealing.{Rising, Renumber, movedRanked, movedRank, movedVerdict, Deal, secondPile, pick, pile, wholePlaces, weave, mergedVerdict}
+use Rattle.theorems.specs.Claims.Partition.{isRefused, refusedOtherwise, Splits, Partition, Sides, HasSides}
 use Rattle.theorems.specs.Claims.Outcomes.{Taken, written, seriesIn, OutcomeOf, number-1, number-2, left-3-to-5, right-3-to-5, number-6, number-7-or-8, number-9, number-10, vector-answered}
 use Rattle.theorems.specs.Outcomes.{every-outcome, taken-call}
 use Rattle.theorems.specs.Dealing.Verdicts.{pileVerdict, verdicts, verdict-rising}

@@ -5,26 +5,23 @@ use mathlib.Core.Bool.{Bool, true, false, not, cond, _&&_, false≢true}
 use mathlib.Core.Option.{Option, none, some}
 use mathlib.Core.List.{List, [], _∷_, _++_, map, append-assoc}
 use native.Mathlib.Omega.{arith}
-use lib.ListN.{length, getD}
-use Rattle.operator.specs.declared.Operator.{Operator}
-use Rattle.operator.specs.declared.Operator.the-variants.{And, Unless}
-use Rattle.operator.specs.Kinds.{Kind, setRule, SetRule, whereFound, whereNone, filled, kindOf}
+use lib.ListN.{getD}
+use Rattle.operator.specs.Kinds.{setRule, SetRule, whereFound, whereNone, filled, kindOf}
 use Rattle.model.specs.Lists.{cases, keep, isEmpty, gather}
 use Rattle.model.specs.Reading.{missing, noReading}
 use Rattle.model.specs.Row.{onlyMissing}
 use Rattle.model.specs.Labels.{Labels}
 use Rattle.model.specs.Query.{Query, sameKey, Side, left, right}
 use Rattle.model.specs.Vector.{Series, Shape}
-use Rattle.model.specs.Laws.Lists.{gather-append, gather-each, keep-append}
-use Rattle.semantics.specs.Places.{Place, Placed, numbered, placed, Rank}
-use Rattle.semantics.specs.Events.{Event, good, bad, Ranked, mark, Verdict, answer, ofKey, producedBy, emission, events, settle, run}
-use Rattle.semantics.specs.Rules.{plain, onSide, ofSide, optional, leftResult, rightResult, setRuleOf}
-use Rattle.semantics.specs.Binop.{firstReading, isFound, someReading, setReading, pointwise, unlessOnlyMissing, staying, met, alone, unmatched, adds, ruleOf, look}
+use Rattle.model.specs.Laws.Lists.{gather-append, gather-each}
+use Rattle.semantics.specs.Places.{Placed, numbered, placed, Rank}
+use Rattle.semantics.specs.Events.{Event, Ranked, mark, answer, ofKey, producedBy, emission, settle, run}
+use Rattle.semantics.specs.Rules.{onSide, ofSide, optional, leftResult, rightResult}
+use Rattle.semantics.specs.Binop.{firstReading, someReading, setReading, pointwise, staying, met, alone, unmatched, adds, ruleOf, look}
 use Rattle.semantics.specs.Call.{call, concluded, verdict, fit}
-use Rattle.theorems.specs.Claims.Dealing.{sameKeyOf}
 use Rattle.theorems.specs.Claims.Outcomes.{Taken, seriesIn}
-use Rattle.theorems.specs.Claims.Prometheus.{Element, readingAt, elementOf, instant, hasMatch, andOf, unlessOf, Reads, AndReads, UnlessReads}
-use Rattle.theorems.specs.Dealing.Fallback.{rights, rights-placed}
+use Rattle.theorems.specs.Claims.Prometheus.{Element, readingAt, elementOf, instant, AndReads, UnlessReads}
+use Rattle.theorems.specs.Dealing.Fallback.{rights-placed}
 use Rattle.theorems.specs.Outcomes.{taken-call}
 
 -- whether a rule keeps the left reading, as a right series of the key has a reading or not

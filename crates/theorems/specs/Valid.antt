@@ -1,13 +1,13 @@
 -- What a call answers is a valid vector: the claim is in Claims.Valid. Assumes nothing.
-use Prim.Native.Nat.{ℕ, zero, suc, _*_, _≤_, _<_}
+use Prim.Native.Nat.{ℕ, zero, suc, _≤_, _<_}
 use mathlib.Core.Path.{_≡_, refl, sym, ap, _∙_}
-use mathlib.Core.Bool.{Bool, true, false, not, cond, _&&_, _||_}
+use mathlib.Core.Bool.{Bool, true, false, cond, _&&_, _||_}
 use mathlib.Core.Option.{Option, none, some}
-use mathlib.Core.List.{List, [], _∷_, _++_, map}
+use mathlib.Core.List.{List, [], _∷_, _++_}
 use native.Mathlib.Omega.{arith}
 use lib.Dec.{T, leb, ltb}
 use lib.ListN.{length, getD}
-use lib.Ieee.{Float, binary64, ofBits, toBits, fits, add, sub, mul, div, rem}
+use lib.Ieee.{Float, binary64, ofBits, toBits, fits}
 use lib.Ieee.Fits.{add-fits, sub-fits, mul-fits, div-fits, rem-fits}
 use lib.Ieee.Bits.{toBits-lt, ofBits-fits}
 use borrow.Author.Tests.{ltb-false}
@@ -17,7 +17,7 @@ use Rattle.model.specs.Limits.{maxTags, maxPoints}
 use Rattle.model.specs.Lists.{cases, All}
 use Rattle.model.specs.Reading.{missing, noReading, calculated, holds, oneOrZero, compared, scalarOfKind, scalarOp}
 use Rattle.model.specs.Row.{onlyMissing, zipWith, merged, overwritten, overlaps}
-use Rattle.model.specs.Labels.{Labels, Bytes, WellFormed}
+use Rattle.model.specs.Labels.{Labels, WellFormed}
 use Rattle.model.specs.Edits.{Names}
 use Rattle.model.specs.Query.{Query, Matching, all, on, ignoring, Join, oneToOne, group, Side, left, right}
 use Rattle.model.specs.Vector.{Series, Shape, Vector, vector, takeVector, sizesOf, labelPart, labelBytes, readingsOf, Readings, GoodSeries, Valid}
@@ -25,14 +25,14 @@ use Rattle.model.specs.Laws.Booleans.{neither-of}
 use Rattle.model.specs.Laws.Lists.{All-map, All-append}
 use Rattle.model.specs.Laws.Edits.{clear-well, on-well, ignoring-well, set-tags-well}
 use Rattle.model.specs.Laws.Vector.{take-valid, readings-length, labels-bytes, readings-words}
-use Rattle.semantics.specs.Places.{Place, Placed, numbered, placed, Rank}
+use Rattle.semantics.specs.Places.{Placed, numbered, placed, Rank}
 use Rattle.semantics.specs.Events.{Ranked, Verdict, answer, duplicate}
 use Rattle.semantics.specs.Rules.{withRow, mergedInto}
-use Rattle.semantics.specs.Binop.{shouldResetMetricGroup, editedBy, adjustBinaryOpTags, paired, skipList, joinedLabels, joinedPair, joinRows, joinWork, allowedOverlaps, matchedRule, Found, firstReading, isFound, someReading, filledFrom, setReading, pointwise, unlessOnlyMissing, staying, met, alone, adds, Seen, unmatched, scalarSide, isBare, look, ruleOf}
-use Rattle.semantics.specs.Call.{Outcome, refused, answered, call, concluded, verdict, fit, overTags}
+use Rattle.semantics.specs.Binop.{shouldResetMetricGroup, editedBy, adjustBinaryOpTags, paired, skipList, joinedLabels, joinedPair, joinRows, joinWork, allowedOverlaps, matchedRule, Found, firstReading, someReading, filledFrom, setReading, pointwise, unlessOnlyMissing, staying, met, alone, adds, Seen, unmatched, scalarSide, isBare, look, ruleOf}
+use Rattle.semantics.specs.Call.{refused, answered, concluded, verdict, fit, overTags}
 use Rattle.theorems.specs.Laws.Sound.{Each, Keeps, Sure, Holds, run-holds, dropping-keeps, one-to-one-keeps, joined-keeps, set-rule-keeps}
-use Rattle.theorems.specs.Claims.Outcomes.{Taken, written, seriesIn}
-use Rattle.theorems.specs.Claims.Partition.{refusedOtherwise, Sides}
+use Rattle.theorems.specs.Claims.Outcomes.{written, seriesIn}
+use Rattle.theorems.specs.Claims.Partition.{refusedOtherwise}
 use Rattle.theorems.specs.Claims.Valid.{ValidAnswer, AnswersAreValid}
 use Rattle.theorems.specs.Dealing.Fitting.{Fits, fits-fit, Way, fine, too-big, no-room, fit-way}
 use Rattle.theorems.specs.Outcomes.{taken-call}

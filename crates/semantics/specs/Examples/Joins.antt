@@ -1,11 +1,11 @@
 -- Joins: matches, labels, merging, order; worked by hand from 01. Assumes nothing.
 use mathlib.Core.Path.{_≡_, refl}
-use mathlib.Core.List.{List, [], _∷_}
+use mathlib.Core.List.{[], _∷_}
 use Rattle.model.specs.Labels.{nameLabel}
 use Rattle.model.specs.Edits.{star}
 use Rattle.semantics.specs.Call.{refused}
 use Rattle.semantics.specs.Computing.{computing}
-use Rattle.semantics.specs.Examples.Notation.{N, r0, r1, r2, r3, r4, r5, r6, r7, r8, r9, r10, form, press, stock, f, p, s, A, B, C, fed, waste, series, ask, on, gives}
+use Rattle.semantics.specs.Examples.Notation.{N, r1, r2, r3, r4, r5, r6, r7, r8, r9, r10, form, press, stock, f, p, s, A, B, C, fed, waste, series, ask, on, gives}
 
 -- Two forms, one waste rate, group_left: two series. No one-side series is used up.
 two-forms :

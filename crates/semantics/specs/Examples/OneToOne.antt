@@ -1,10 +1,10 @@
 -- Arithmetic and comparisons one-to-one: keys, the drop, merging, labels, order; worked by hand from 01. Assumes nothing.
 use mathlib.Core.Path.{_≡_, refl}
-use mathlib.Core.List.{List, [], _∷_}
+use mathlib.Core.List.{[], _∷_}
 use Rattle.model.specs.Labels.{nameLabel}
 use Rattle.semantics.specs.Call.{refused}
 use Rattle.semantics.specs.Computing.{computing}
-use Rattle.semantics.specs.Examples.Notation.{N, M, r0, r1, r2, r3, r4, r5, r6, r7, r8, r9, r10, form, press, stock, f, p, s, A, B, C, fed, waste, series, ask, plainly, on, gives}
+use Rattle.semantics.specs.Examples.Notation.{N, M, r0, r1, r2, r3, r4, r5, r6, r7, r8, r9, r10, form, press, f, p, A, B, fed, waste, series, ask, plainly, on, gives}
 
 -- 01's example of `vecop`
 waste-rate : on (plainly 4) 3 (series fed (press A ∷ []) (r10 ∷ N ∷ r6 ∷ []) ∷ []) (series waste (press A ∷ []) (r2 ∷ r1 ∷ r3 ∷ []) ∷ [])

@@ -3,10 +3,10 @@ use Prim.Native.Nat.{ℕ}
 use mathlib.Core.Path.{_≡_, refl}
 use mathlib.Core.List.{List, [], _∷_, _++_, map}
 use Rattle.model.specs.Labels.{Tag, nameLabel}
-use Rattle.model.specs.Vector.{Series, labelPart, readingsOf}
+use Rattle.model.specs.Vector.{labelPart}
 use Rattle.semantics.specs.Call.{Outcome, refused, answered, call}
 use Rattle.semantics.specs.Computing.{computing}
-use Rattle.semantics.specs.Examples.Notation.{N, r1, r2, r3, form, press, stock, p, s, A, B, series, ask, plainly, on, gives}
+use Rattle.semantics.specs.Examples.Notation.{r1, r2, r3, form, press, stock, p, s, A, B, series, ask, plainly, on, gives}
 
 -- sizes of a vector without series and points, and its label part
 abbrev none : List ℕ

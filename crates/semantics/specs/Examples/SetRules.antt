@@ -1,6 +1,6 @@
 -- Set rules: readings, matches, the fallback, order; worked by hand from 01. Assumes nothing.
 use mathlib.Core.Path.{_≡_, refl}
-use mathlib.Core.List.{List, [], _∷_, map}
+use mathlib.Core.List.{[], _∷_, map}
 use Rattle.semantics.specs.Computing.{computing}
 use Rattle.semantics.specs.Examples.Notation.{N, M, r1, r2, r3, r4, r5, r6, r7, r8, r9, form, press, stock, p, A, B, fed, waste, series, ask, plainly, on, gives}
 

@@ -1,8 +1,8 @@
 -- Demand 1: every call answers a vector or gives one refusal from document 01, under its stated condition and under no other. Assumes nothing.
 use Prim.Native.Nat.{ℕ, _≤_}
 use mathlib.Core.Path.{_≡_}
-use mathlib.Core.Bool.{Bool, true, false}
-use mathlib.Core.List.{List, [], _∷_, map}
+use mathlib.Core.Bool.{true, false}
+use mathlib.Core.List.{List, map}
 use lib.ListN.{length}
 use Rattle.model.specs.Query.{Query, query, badOperator, malformed, takeQuery}
 use Rattle.model.specs.Vector.{Series, Shape, Vector, vector, faulty, takeVector, labelBytes, readingsOf}

@@ -14,7 +14,7 @@ use Rattle.model.specs.Labels.{Labels}
 use Rattle.model.specs.Query.{Query, sameKey, Side, left, right, group}
 use Rattle.model.specs.Vector.{Series, Shape}
 use Rattle.semantics.specs.Places.{Place, Placed, placed, samePlace, Rank}
-use Rattle.semantics.specs.Events.{Ranked, Verdict, answer, ofKey}
+use Rattle.semantics.specs.Events.{Ranked, answer, ofKey}
 use Rattle.semantics.specs.Rules.{ofSide, other, hasReadings}
 use Rattle.semantics.specs.Binop.{joinedLabels}
 use Rattle.semantics.specs.Call.{Outcome, call, fit, verdict}

@@ -1,15 +1,15 @@
 -- Operators that fall back: under the demand's two conditions a pile's call emits what its series emit with the whole call's sides in sight. Assumes nothing.
 use Prim.Native.Nat.{ℕ, zero, suc}
 use mathlib.Core.Path.{_≡_, refl, sym, ap, _∙_}
-use mathlib.Core.Bool.{Bool, true, false, not, cond, _&&_, false≢true}
+use mathlib.Core.Bool.{Bool, true, false, cond, _&&_, false≢true}
 use mathlib.Core.Option.{Option, none, some}
 use mathlib.Core.List.{List, [], _∷_, _++_, map}
-use Rattle.operator.specs.Kinds.{Kind, fallback, SetRule, whereFound, whereNone, filled}
-use Rattle.model.specs.Lists.{cases, keep, isEmpty, All, gather}
+use Rattle.operator.specs.Kinds.{fallback, SetRule, whereFound, whereNone, filled}
+use Rattle.model.specs.Lists.{cases, isEmpty, All}
 use Rattle.model.specs.Query.{Query, sameKey, Side, left, right}
 use Rattle.model.specs.Vector.{Series}
 use Rattle.model.specs.Laws.Lists.{All-map, All-each, All-append, All-front, All-zip, gather-cong, keep-map, keep-keep, keep-append, map-map, map-append}
-use Rattle.semantics.specs.Places.{Place, Placed, numbered, placed}
+use Rattle.semantics.specs.Places.{Placed, numbered, placed}
 use Rattle.semantics.specs.Events.{mark, ofKey, producedBy, emission, settle, run}
 use Rattle.semantics.specs.Rules.{ofSide, optional, leftResult, rightResult}
 use Rattle.semantics.specs.Binop.{met, unmatched, adds, Seen, ruleOf, scalarSide, look}

@@ -1,8 +1,8 @@
 -- What fits, and that the parts of what fits fit. Assumes nothing.
-use Prim.Native.Nat.{ℕ, zero, suc, _+_, _*_, _≤_, _<_}
+use Prim.Native.Nat.{ℕ, _+_, _*_, _≤_}
 use mathlib.Core.Path.{_≡_, refl, sym, ap, _∙_}
 use mathlib.Core.Bool.{Bool, true, false, cond, _||_}
-use mathlib.Core.List.{List, [], _∷_, _++_, map}
+use mathlib.Core.List.{List, [], _∷_}
 use native.Mathlib.Omega.{arith}
 use native.Mathlib.Nat.{mul-le-mul-right, le-trans}
 use lib.Dec.{ltb}
@@ -11,10 +11,10 @@ use borrow.Author.Tests.{ltb-false, le-ltb, lt-ltb}
 use Rattle.model.specs.Limits.{maxSeries, maxTags, maxLabelBytes}
 use Rattle.model.specs.Lists.{cases}
 use Rattle.model.specs.Record.{encode}
-use Rattle.model.specs.Vector.{Series, Shape, labelBytes, readingsOf}
+use Rattle.model.specs.Vector.{Series, Shape, labelBytes}
 use Rattle.semantics.specs.Places.{Rank, rankBefore}
 use Rattle.semantics.specs.Events.{Ranked}
-use Rattle.semantics.specs.Call.{Outcome, refused, answered, fit, overTags}
+use Rattle.semantics.specs.Call.{Outcome, refused, fit, overTags}
 use Rattle.theorems.specs.Claims.Dealing.{insert, weave}
 use Rattle.theorems.specs.Claims.Outcomes.{written, seriesIn}
 

@@ -1,14 +1,14 @@
 -- What a list of producers emits is woven from what two piles of them emit, and settles to the piles' verdicts merged. Assumes nothing.
-use mathlib.Core.Path.{_≡_, refl, sym, ap, _∙_}
-use mathlib.Core.Bool.{Bool, true, false, not, cond, _||_}
+use mathlib.Core.Path.{_≡_, refl}
+use mathlib.Core.Bool.{Bool, true, false, not}
 use mathlib.Core.List.{List, [], _∷_, _++_}
 use Rattle.model.specs.Lists.{cases, keep, All, gather}
 use Rattle.model.specs.Vector.{Series}
-use Rattle.model.specs.Laws.Lists.{All-map, All-each, All-zip, All-append, All-keep, All-gather}
+use Rattle.model.specs.Laws.Lists.{All-map, All-keep, All-gather}
 use Rattle.semantics.specs.Places.{Rank, rankBefore}
-use Rattle.semantics.specs.Events.{Duplicate, Event, good, bad, Ranked, Verdict, answer, duplicate, front, settle}
+use Rattle.semantics.specs.Events.{Event, good, bad, Ranked, Verdict, answer, duplicate, front, settle}
 use Rattle.theorems.specs.Laws.Order.{Behind, Orderly}
-use Rattle.theorems.specs.Claims.Dealing.{Rising, insert, weave, earlierOf, mergedVerdict}
+use Rattle.theorems.specs.Claims.Dealing.{Rising, insert, weave, mergedVerdict}
 
 module _ {R E : Type 0} (lt : R → R → Bool) where
   insert-here : (e : Ranked R E) (l : List (Ranked R E)) → All (λ b. lt (b .rank) (e .rank) ≡ false) l → insert lt e l ≡ e ∷ l

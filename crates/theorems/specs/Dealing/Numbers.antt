@@ -1,15 +1,15 @@
 -- A pile on its own numbers is the pile in the whole, renumbered. Assumes nothing.
 use Prim.Native.Nat.{ℕ, zero, suc}
-use mathlib.Core.Path.{_≡_, refl, sym, ap, _∙_}
-use mathlib.Core.Bool.{Bool, true, false, not, cond}
-use mathlib.Core.List.{List, [], _∷_, _++_, map}
+use mathlib.Core.Path.{_≡_, refl, ap, _∙_}
+use mathlib.Core.Bool.{Bool, not}
+use mathlib.Core.List.{List, [], _∷_, map}
 use lib.Dec.{eqb, eqb·zero-suc, eqb·suc-zero, eqb·suc-suc}
-use Rattle.model.specs.Lists.{cases, keep, All, gather}
+use Rattle.model.specs.Lists.{cases, keep, gather}
 use Rattle.model.specs.Query.{Query, sameKey, Side, left, right}
 use Rattle.model.specs.Vector.{Series}
 use Rattle.model.specs.Laws.Lists.{All-map, keep-append, keep-keep, gather-keep-cong, map-append}
-use Rattle.semantics.specs.Places.{Place, Placed, numbered, placed, alongside, rankBefore}
-use Rattle.semantics.specs.Events.{Rule, Verdict, ofKey, emission, events, run}
+use Rattle.semantics.specs.Places.{Placed, numbered, placed, alongside}
+use Rattle.semantics.specs.Events.{Rule, emission, events, run}
 use Rattle.theorems.specs.Laws.Order.{Steady, Ascending, placed-ascending, events-orderly}
 use Rattle.theorems.specs.Laws.Renumber.{movedSeries, Exact, Natural, run-moved}
 use Rattle.theorems.specs.Claims.Dealing.{Renumber, movedVerdict, Deal, secondPile, pick, pile, nextNumber, wholeNumber, wholePlaces, Apart, mergedVerdict}

@@ -1,12 +1,11 @@
 -- Demand 3 on decoded sides, for every query: the whole verdict is the piles', in whole places, merged. Assumes nothing.
-use Prim.Native.Nat.{ℕ}
-use mathlib.Core.Path.{_≡_, refl, sym, ap, _∙_}
-use mathlib.Core.Bool.{Bool, true, false, not, _&&_}
-use mathlib.Core.List.{List, [], _∷_}
+use mathlib.Core.Path.{_≡_, refl}
+use mathlib.Core.Bool.{_&&_}
+use mathlib.Core.List.{List}
 use Rattle.operator.specs.Kinds.{Kind, arithmetic, comparison, setRule, fallback, notCarried, kindOf}
-use Rattle.model.specs.Query.{Query, Side, left, right, Join, oneToOne, group}
+use Rattle.model.specs.Query.{Query, left, right, Join, oneToOne, group}
 use Rattle.model.specs.Vector.{Series}
-use Rattle.semantics.specs.Places.{Place, placed, Rank, rankBefore}
+use Rattle.semantics.specs.Places.{placed, Rank, rankBefore}
 use Rattle.semantics.specs.Events.{Ranked, Verdict, answer, run, emission}
 use Rattle.semantics.specs.Rules as Rules
 use Rattle.semantics.specs.Rules.{setRuleOf}

@@ -1,16 +1,16 @@
 -- Places ascend along a call's series, ranks rise along what rules emit. Assumes nothing.
 use Prim.Native.Nat.{ℕ, zero, suc, _<_}
-use mathlib.Core.Path.{_≡_, refl, sym, ap, _∙_}
-use mathlib.Core.Bool.{Bool, true, false, not, cond}
-use mathlib.Core.List.{List, [], _∷_, _++_, map}
+use mathlib.Core.Path.{_≡_, refl, _∙_}
+use mathlib.Core.Bool.{Bool, true, false, cond}
+use mathlib.Core.List.{List, [], _∷_, _++_}
 use native.Mathlib.Omega.{arith}
-use lib.Dec.{ltb, eqb}
+use lib.Dec.{ltb}
 use borrow.Author.Tests.{le-ltb, lt-ltb}
 use Rattle.model.specs.Lists.{cases, keep, All, gather}
 use Rattle.model.specs.Query.{Query, sameKey, Side, left, right}
 use Rattle.model.specs.Vector.{Series}
 use Rattle.theorems.specs.Claims.Dealing.{Rising}
-use Rattle.semantics.specs.Places.{Place, Placed, numbered, placed, earlier, before, Rank, rankBefore}
+use Rattle.semantics.specs.Places.{Place, Placed, numbered, placed, earlier, before, rankBefore}
 use Rattle.semantics.specs.Events.{Ranked, Event, mark, Rule, ofKey, producedBy, emission}
 use Rattle.semantics.specs.Rules.{Plain, plain, onSide, other, ofSide, pairs, groupOf, groups, joined, hasReadings, dropping}
 use Rattle.model.specs.Laws.Lists.{All-map, All-each, All-append, All-on-map, All-keep, All-gather}

@@ -1,22 +1,22 @@
 -- Series under other numbers: what a rule emits of renumbered series is what it emits, renumbered. Assumes nothing.
-use Prim.Native.Nat.{ℕ, zero, suc}
-use mathlib.Core.Path.{_≡_, refl, sym, ap, _∙_}
+use Prim.Native.Nat.{ℕ, suc}
+use mathlib.Core.Path.{_≡_, refl, ap, _∙_}
 use mathlib.Core.Bool.{Bool, true, false, cond}
 use mathlib.Core.Option.{Option, none, some}
-use mathlib.Core.List.{List, [], _∷_, _++_, map}
+use mathlib.Core.List.{List, [], _∷_, map}
 use lib.ListN.{getD}
-use Rattle.operator.specs.Kinds.{Kind, arithmetic, comparison, setRule, fallback, notCarried, SetRule, whereFound, whereNone, filled}
-use Rattle.model.specs.Lists.{cases, keep, gather}
+use Rattle.operator.specs.Kinds.{SetRule, whereFound, whereNone, filled}
+use Rattle.model.specs.Lists.{cases, keep}
 use Rattle.model.specs.Reading.{missing, noReading}
-use Rattle.model.specs.Query.{Query, sameKey, Side, left, right, Join, oneToOne, group}
+use Rattle.model.specs.Query.{Query, Side, oneToOne}
 use Rattle.model.specs.Vector.{Series}
 use Rattle.model.specs.Laws.Lists.{keep-map, gather-map, map-gather, map-map, gather-each}
 use Rattle.theorems.specs.Claims.Dealing.{Renumber, movedPlace, movedDuplicate, movedRank, movedRanked, movedVerdict}
 use Rattle.semantics.specs.Places.{Place, Placed, samePlace, Rank}
-use Rattle.semantics.specs.Events.{Duplicate, Event, good, bad, Ranked, mark, Rule, ofKey, producedBy, emission, events, Verdict, answer, duplicate, front, settle, run}
+use Rattle.semantics.specs.Events.{Event, good, bad, Ranked, mark, Rule, ofKey, emission, events, Verdict, answer, duplicate, front, settle, run}
 use Rattle.semantics.specs.Rules as Rules
-use Rattle.semantics.specs.Rules.{Plain, plain, onSide, other, ofSide, isFirst, Merged, nothing, one, clash, onMerged, mergedInto, absorbed, lastOf, earlierOnes, mergedIntoLast, mergedIntoEarliest, both, pairs, sameEdited, alikeTo, worked, groupOf, groups, joined, optional, leftResult, rightResult, setRuleOf, hasReadings, dropping}
-use Rattle.semantics.specs.Binop.{Found, firstReading, isFound, someReading, filledFrom, setReading, pointwise, staying, met}
+use Rattle.semantics.specs.Rules.{Plain, plain, onSide, other, ofSide, isFirst, Merged, nothing, one, clash, onMerged, absorbed, lastOf, earlierOnes, mergedIntoLast, mergedIntoEarliest, both, pairs, worked, groupOf, groups, joined, optional, leftResult, rightResult, setRuleOf, hasReadings, dropping}
+use Rattle.semantics.specs.Binop.{Found, firstReading, isFound, someReading, filledFrom, setReading, pointwise, met}
 
 abbrev pub movedSeries : Renumber → Placed → Placed
 movedSeries ρ s = record { place = movedPlace ρ (s .place); series = s .series }

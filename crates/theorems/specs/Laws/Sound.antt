@@ -1,15 +1,14 @@
 -- What holds of every series of a call holds of every answer series, if the rule's parts keep it. Assumes nothing.
 use Prim.Native.Nat.{ℕ}
-use mathlib.Core.Path.{_≡_, refl, sym, ap, _∙_}
 use mathlib.Core.Bool.{Bool, true, false, cond}
 use mathlib.Core.Option.{Option, none, some}
-use mathlib.Core.List.{List, [], _∷_, _++_, map}
-use Rattle.model.specs.Lists.{keep, All, gather}
+use mathlib.Core.List.{List, [], _∷_}
+use Rattle.model.specs.Lists.{keep, All}
 use Rattle.model.specs.Query.{Query, sameKey, Side, left, right}
 use Rattle.model.specs.Vector.{Series}
-use Rattle.model.specs.Laws.Lists.{All-map, All-append, All-on-map, All-keep, All-gather}
-use Rattle.semantics.specs.Places.{Place, Placed, Rank}
-use Rattle.semantics.specs.Events.{Duplicate, Event, good, bad, Ranked, mark, Rule, ofKey, emission, events, Verdict, answer, duplicate, front, settle, run}
+use Rattle.model.specs.Laws.Lists.{All-map, All-on-map, All-keep, All-gather}
+use Rattle.semantics.specs.Places.{Placed, Rank}
+use Rattle.semantics.specs.Events.{Event, good, bad, Ranked, mark, Rule, ofKey, emission, events, Verdict, answer, duplicate, front, settle, run}
 use Rattle.semantics.specs.Rules as Rules
 use Rattle.semantics.specs.Rules.{Plain, plain, onSide, other, ofSide, isFirst, Merged, nothing, one, clash, onMerged, mergedInto, absorbed, lastOf, earlierOnes, mergedIntoLast, mergedIntoEarliest, both, pairs, sameEdited, alikeTo, worked, groupOf, groups, joined, optional, leftResult, rightResult, setRuleOf, hasReadings, dropping}
 
