@@ -108,10 +108,14 @@ module _ {R E : Type 0} (lt : R → R → Bool) where
   insert e [] = e ∷ []
   insert e (b ∷ bs) = cond (lt (b .rank) (e .rank)) (b ∷ insert e bs) (e ∷ b ∷ bs)
 
-  -- ranks never fall in a list
+  -- b ranks behind e
+  abbrev pub Behind : Ranked R E → Ranked R E → Type 0
+  Behind e b = (lt (e .rank) (b .rank) ≡ true) × (lt (b .rank) (e .rank) ≡ false)
+
+  -- ranks rise: all that follow an element rank behind it
   abbrev pub Rising : List (Ranked R E) → Type 0
   Rising [] = Unit {0}
-  Rising (e ∷ l) = All (λ b. lt (b .rank) (e .rank) ≡ false) l × Rising l
+  Rising (e ∷ l) = All (Behind e) l × Rising l
 
   -- 01: Merging ranks the series of both piles' answers. Each of the first list goes into its place in the second.
   abbrev pub weave : List (Ranked R E) → List (Ranked R E) → List (Ranked R E)

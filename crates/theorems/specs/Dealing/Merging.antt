@@ -7,8 +7,8 @@ use Rattle.model.specs.Vector.{Series}
 use Rattle.model.specs.Laws.Lists.{All-map, All-keep, All-gather}
 use Rattle.semantics.specs.Places.{Rank, rankBefore}
 use Rattle.semantics.specs.Events.{Event, good, bad, Ranked, Verdict, answer, duplicate, front, settle}
-use Rattle.theorems.specs.Laws.Order.{Behind, Orderly}
-use Rattle.theorems.specs.Claims.Dealing.{Rising, insert, weave, mergedVerdict}
+use Rattle.theorems.specs.Laws.Order.{Orderly}
+use Rattle.theorems.specs.Claims.Dealing.{Behind, Rising, insert, weave, mergedVerdict}
 
 module _ {R E : Type 0} (lt : R → R → Bool) where
   insert-here : (e : Ranked R E) (l : List (Ranked R E)) → All (λ b. lt (b .rank) (e .rank) ≡ false) l → insert lt e l ≡ e ∷ l
@@ -84,7 +84,7 @@ NotBefore l v = All (λ e. EachRank (λ k. rankBefore k (e .rank) ≡ false) v) 
 fronts-left : (l : List (Ranked Rank Event)) (v w : Verdict) → Rising rankBefore l → NotBefore l v → NotBefore l w → fronts l (mergedVerdict v w) ≡ mergedVerdict (fronts l v) w
 fronts-left [] v w r a b = refl
 fronts-left (e ∷ l) v w r a b =
-    rw (fronts-left l v w (r .1) (a .1) (b .1)) (front-left (e .rank) (e .what) (fronts l v) w (each-fronts _ l v (r .0) (a .0)) (b .0))
+    rw (fronts-left l v w (r .1) (a .1) (b .1)) (front-left (e .rank) (e .what) (fronts l v) w (each-fronts _ l v (All-map (λ b h. h .1) l (r .0)) (a .0)) (b .0))
 
 fronts-right : (l : List (Ranked Rank Event)) (v w : Verdict) → All (λ e. EachRank (λ k. rankBefore (e .rank) k ≡ true) v) l → fronts l (mergedVerdict v w) ≡ mergedVerdict v (fronts l w)
 fronts-right [] v w a = refl
@@ -123,12 +123,16 @@ abbrev RisingAnswer : Verdict → Type 0
 RisingAnswer (answer l) = Rising rankBefore l
 RisingAnswer (duplicate x) = Unit {0}
 
-front-rising : (r : Rank) (e : Event) (v : Verdict) → EachRank (λ k. rankBefore k r ≡ false) v → RisingAnswer v → RisingAnswer (front r e v)
+-- a verdict ranks behind r
+abbrev AllBehind : Rank → Verdict → Type 0
+AllBehind r v = EachRank (λ k. (rankBefore r k ≡ true) × (rankBefore k r ≡ false)) v
+
+front-rising : (r : Rank) (e : Event) (v : Verdict) → AllBehind r v → RisingAnswer v → RisingAnswer (front r e v)
 front-rising r (bad d) v h a = tt
 front-rising r (good s) (answer l) h a = (h, a)
 front-rising r (good s) (duplicate x) h a = tt
 
-fronts-rising : (l : List (Ranked Rank Event)) (v : Verdict) → Rising rankBefore l → NotBefore l v → RisingAnswer v → RisingAnswer (fronts l v)
+fronts-rising : (l : List (Ranked Rank Event)) (v : Verdict) → Rising rankBefore l → All (λ e. AllBehind (e .rank) v) l → RisingAnswer v → RisingAnswer (fronts l v)
 fronts-rising [] v r h a = a
 fronts-rising (e ∷ l) v r h a = front-rising (e .rank) (e .what) (fronts l v) (each-fronts _ l v (r .0) (h .0)) (fronts-rising l v (r .1) (h .1) a)
 
@@ -138,7 +142,7 @@ module _ {A : Type 0} (g : A → List (Ranked Rank Event)) where
   settled-rising (x ∷ xs) a =
       rw (settle-append (g x) (gather g xs))
       (fronts-rising (g x) (settle (gather g xs)) (a .0)
-      (All-map (λ e k. each-settle (λ r. rankBefore r (e .rank) ≡ false) (gather g xs) (All-map (λ b h. h .1) (gather g xs) k)) (g x) (flip g (g x) xs (a .1)))
+      (All-map (λ e k. each-settle (λ r. (rankBefore (e .rank) r ≡ true) × (rankBefore r (e .rank) ≡ false)) (gather g xs) k) (g x) (flip g (g x) xs (a .1)))
       (settled-rising xs (a .2)))
 
   pub answer-rising : (xs : List A) (l : List (Ranked Rank Series)) → Orderly rankBefore g xs → settle (gather g xs) ≡ answer l → Rising rankBefore l

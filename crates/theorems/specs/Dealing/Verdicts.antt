@@ -8,10 +8,9 @@ use Rattle.model.specs.Vector.{Series}
 use Rattle.semantics.specs.Places.{placed, Rank, rankBefore}
 use Rattle.semantics.specs.Events.{Ranked, Verdict, answer, run, emission}
 use Rattle.semantics.specs.Rules as Rules
-use Rattle.semantics.specs.Rules.{setRuleOf}
 use Rattle.semantics.specs.Binop.{allowedOverlaps, paired, joinedPair, joinWork, matchedRule, met, unmatched, adds, Seen, ruleOf, look}
 use Rattle.semantics.specs.Call.{verdict}
-use Rattle.theorems.specs.Laws.Order.{Steady, plain-steady, dropping-steady, joined-steady, placed-ascending, events-orderly}
+use Rattle.theorems.specs.Laws.Order.{Steady, one-to-one-steady, set-rule-steady, dropping-steady, joined-steady, placed-ascending, events-orderly}
 use Rattle.theorems.specs.Laws.Renumber.{Natural, dropping-natural, one-to-one-natural, joined-natural, set-rule-natural, met-moved}
 use Rattle.theorems.specs.Claims.Dealing.{Rising, movedVerdict, Deal, secondPile, pile, wholePlaces, Apart, FallsAlikeIf, Dealt, mergedVerdict}
 use Rattle.theorems.specs.Dealing.Merging.{answer-rising}
@@ -23,7 +22,7 @@ matched-natural q oneToOne = one-to-one-natural (allowedOverlaps q) (paired q)
 matched-natural q (group many) = joined-natural (allowedOverlaps q) (joinedPair q) (joinWork q many) many
 
 matched-steady : (q : Query) (j : Join) → Steady (matchedRule q j)
-matched-steady q oneToOne = plain-steady (Rules.oneToOne (allowedOverlaps q) (paired q))
+matched-steady q oneToOne = one-to-one-steady (allowedOverlaps q) (paired q)
 matched-steady q (group many) = joined-steady (allowedOverlaps q) (joinedPair q) (joinWork q many) many
 
 rule-natural : (q : Query) (k : Kind) (c : Seen) → Natural (ruleOf q k c)
@@ -36,8 +35,8 @@ rule-natural q notCarried c = record { moves = λ ρ exact s xs. refl }
 rule-steady : (q : Query) (k : Kind) (c : Seen) → Steady (ruleOf q k c)
 rule-steady q (arithmetic a) c = dropping-steady (matched-steady q (q .join))
 rule-steady q (comparison t) c = matched-steady q (q .join)
-rule-steady q (setRule k) c = plain-steady (setRuleOf (adds k && c .addsRight) (unmatched k (c .fallbackTo)) (met k))
-rule-steady q (fallback k) c = plain-steady (setRuleOf (adds k && c .addsRight) (unmatched k (c .fallbackTo)) (met k))
+rule-steady q (setRule k) c = set-rule-steady (adds k && c .addsRight) (unmatched k (c .fallbackTo)) (met k)
+rule-steady q (fallback k) c = set-rule-steady (adds k && c .addsRight) (unmatched k (c .fallbackTo)) (met k)
 rule-steady q notCarried c = record { rises = λ s xs a. tt }
 
 -- a pile's verdict does not turn on whether its rule sees the pile's sides or the whole's

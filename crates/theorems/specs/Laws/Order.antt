@@ -2,6 +2,7 @@
 use Prim.Native.Nat.{ℕ, zero, suc, _<_}
 use mathlib.Core.Path.{_≡_, refl, _∙_}
 use mathlib.Core.Bool.{Bool, true, false, cond}
+use mathlib.Core.Option.{Option, none, some}
 use mathlib.Core.List.{List, [], _∷_, _++_}
 use native.Mathlib.Omega.{arith}
 use lib.Dec.{ltb}
@@ -9,10 +10,11 @@ use borrow.Author.Tests.{le-ltb, lt-ltb}
 use Rattle.model.specs.Lists.{cases, keep, All, gather}
 use Rattle.model.specs.Query.{Query, sameKey, Side, left, right}
 use Rattle.model.specs.Vector.{Series}
-use Rattle.theorems.specs.Claims.Dealing.{Rising}
+use Rattle.theorems.specs.Claims.Dealing.{Behind, Rising}
 use Rattle.semantics.specs.Places.{Place, Placed, numbered, placed, earlier, before, rankBefore}
 use Rattle.semantics.specs.Events.{Ranked, Event, mark, Rule, ofKey, producedBy, emission}
-use Rattle.semantics.specs.Rules.{Plain, plain, onSide, other, ofSide, pairs, groupOf, groups, joined, hasReadings, dropping}
+use Rattle.semantics.specs.Rules as Rules
+use Rattle.semantics.specs.Rules.{Plain, plain, onSide, other, ofSide, isFirst, Merged, nothing, one, clash, mergedIntoLast, mergedIntoEarliest, both, pairs, alikeTo, worked, groupOf, groups, joined, optional, leftResult, rightResult, setRuleOf, hasReadings, dropping}
 use Rattle.model.specs.Laws.Lists.{All-map, All-each, All-append, All-on-map, All-keep, All-gather}
 
 ltb-irrefl : (n : ℕ) → ltb n n ≡ false
@@ -27,12 +29,7 @@ before-irrefl p = earlier-same (p .side) _ ∙ ltb-irrefl (p .number)
 
 -- ranks
 
-module _ {R E : Type 0} (lt : R → R → Bool) where
-  -- b ranks behind e
-  abbrev pub Behind : Ranked R E → Ranked R E → Type 0
-  Behind e b = (lt (e .rank) (b .rank) ≡ true) × (lt (b .rank) (e .rank) ≡ false)
-
--- the producers xs emit by g with ranks that never fall, and that rise from each to each later one
+-- the producers xs emit by g with ranks that rise, in each and from each to each later one
 module _ {R E A : Type 0} (lt : R → R → Bool) (g : A → List (Ranked R E)) where
   abbrev pub Orderly : List A → Type 0
   Orderly [] = Unit {0}
@@ -87,7 +84,7 @@ pub record Steady (f : Rule) : Type 0 where
 
 produced-rising : (p : Place) (l : List (Ranked Place Event)) → Rising before l → Rising rankBefore (producedBy p l)
 produced-rising p [] r = tt
-produced-rising p (e ∷ l) r = (All-on-map _ _ l (All-map (λ b h. cc (before-irrefl p)) l (r .0)), produced-rising p l (r .1))
+produced-rising p (e ∷ l) r = (All-on-map _ _ l (All-map (λ b h. (cc (before-irrefl p, h .0), cc (before-irrefl p, h .1))) l (r .0)), produced-rising p l (r .1))
 
 produced-behind : (p q : Place) (l m : List (Ranked Place Event)) → before p q ≡ true → before q p ≡ false
     → All (λ e. All (Behind rankBefore e) (producedBy q m)) (producedBy p l)
@@ -107,27 +104,75 @@ pub All-mark : {R E : Type 0} (Q : R → Type 0) (r : R) (es : List E) → Q r �
 All-mark Q r [] h = tt
 All-mark Q r (e ∷ es) h = (h, All-mark Q r es h)
 
-rising-mark : {E : Type 0} (p : Place) (es : List E) → Rising before (mark p es)
-rising-mark p [] = tt
-rising-mark p (e ∷ es) = (All-mark (λ q. before q p ≡ false) p es (before-irrefl p), rising-mark p es)
+-- a rule that ranks by one place gives one event at most
+abbrev AtMostOne : {E : Type 0} → List E → Type 0
+AtMostOne [] = Unit {0}
+AtMostOne (e ∷ []) = Unit {0}
+AtMostOne (e ∷ d ∷ es) = ⊥
 
-rising-append : {E : Type 0} (l m : List (Ranked Place E)) → Rising before l → Rising before m → All (λ e. All (λ b. before (b .rank) (e .rank) ≡ false) m) l → Rising before (l ++ m)
+rising-mark : {E : Type 0} (p : Place) (es : List E) → AtMostOne es → Rising before (mark p es)
+rising-mark p [] o = tt
+rising-mark p (e ∷ []) o = (tt, tt)
+rising-mark p (e ∷ d ∷ es) o = absurd o
+
+rising-append : {E : Type 0} (l m : List (Ranked Place E)) → Rising before l → Rising before m → All (λ e. All (Behind before e) m) l → Rising before (l ++ m)
 rising-append [] m r t a = t
 rising-append (e ∷ l) m r t a = (All-append _ l m (r .0) (a .0), rising-append l m (r .1) t (a .1))
 
-rising-gather : {E : Type 0} (h : Placed → List E) (xs : List Placed) → Ascending xs → Rising before (gather (λ x. mark (x .place) (h x)) xs)
-rising-gather h [] a = tt
-rising-gather h (x ∷ xs) a =
-    rising-append (mark (x .place) (h x)) (gather (λ y. mark (y .place) (h y)) xs) (rising-mark (x .place) (h x)) (rising-gather h xs (a .1))
-    (All-mark (λ p. All (λ b. before (b .rank) p ≡ false) (gather (λ y. mark (y .place) (h y)) xs)) (x .place) (h x)
-    (All-gather _ (λ y. mark (y .place) (h y)) xs (All-map (λ y k. All-mark (λ q. before q (x .place) ≡ false) (y .place) (h y) (k .1)) xs (a .0))))
+rising-gather : {E : Type 0} (h : Placed → List E) → ((x : Placed) → AtMostOne (h x)) → (xs : List Placed) → Ascending xs → Rising before (gather (λ x. mark (x .place) (h x)) xs)
+rising-gather h o [] a = tt
+rising-gather h o (x ∷ xs) a =
+    rising-append (mark (x .place) (h x)) (gather (λ y. mark (y .place) (h y)) xs) (rising-mark (x .place) (h x) (o x)) (rising-gather h o xs (a .1))
+    (All-mark (λ p. All (λ b. (before p (b .rank) ≡ true) × (before (b .rank) p ≡ false)) (gather (λ y. mark (y .place) (h y)) xs)) (x .place) (h x)
+    (All-gather _ (λ y. mark (y .place) (h y)) xs (All-map (λ y k. All-mark (λ q. (before (x .place) q ≡ true) × (before q (x .place) ≡ false)) (y .place) (h y) k) xs (a .0))))
 
 rising-cond : {E : Type 0} (t : Bool) (l : List (Ranked Place E)) → Rising before l → Rising before (cond t l [])
 rising-cond true l r = r
 rising-cond false l r = tt
 
-pub plain-steady : (f : Plain) → Steady (plain f)
-plain-steady f = record { rises = λ s xs a. rising-mark (s .place) (f s xs) }
+plain-steady : (f : Plain) → ((s : Placed) (xs : List Placed) → AtMostOne (f s xs)) → Steady (plain f)
+plain-steady f o = record { rises = λ s xs a. rising-mark (s .place) (f s xs) (o s xs) }
+
+cond-one : {E : Type 0} (t : Bool) (l m : List E) → AtMostOne l → AtMostOne m → AtMostOne (cond t l m)
+cond-one true l m h k = h
+cond-one false l m h k = k
+
+both-one : (work : Series → Series → Series) (m n : Merged) → AtMostOne (both work m n)
+both-one work m nothing = tt
+both-one work nothing (one c) = tt
+both-one work nothing (clash e) = tt
+both-one work (one b) (one c) = tt
+both-one work (one b) (clash e) = tt
+both-one work (clash d) (one c) = tt
+both-one work (clash d) (clash e) = tt
+
+worked-one : (work : Series → Series) (m : Merged) → AtMostOne (worked work m)
+worked-one work nothing = tt
+worked-one work (one b) = tt
+worked-one work (clash d) = tt
+
+optional-one : (o : Option Series) → AtMostOne (optional o)
+optional-one none = tt
+optional-one (some b) = tt
+
+left-one : (alone : Series → Option Series) (meet : Series → List Placed → Option Series) (b : Series) (rs : List Placed) → AtMostOne (leftResult alone meet b rs)
+left-one alone meet b [] = optional-one (alone b)
+left-one alone meet b (r ∷ rs) = optional-one (meet b (r ∷ rs))
+
+right-one : (b : Series) (ls : List Placed) → AtMostOne (rightResult b ls)
+right-one b [] = tt
+right-one b (l ∷ ls) = tt
+
+pub one-to-one-steady : (allowance : ℕ) (work : Series → Series → Series) → Steady (plain (Rules.oneToOne allowance work))
+one-to-one-steady allowance work =
+    plain-steady (Rules.oneToOne allowance work)
+    (λ s xs. cond-one (isFirst s (ofSide left xs)) _ [] (both-one work (mergedIntoLast allowance (ofSide left xs)) (mergedIntoLast allowance (ofSide right xs))) tt)
+
+pub set-rule-steady : (adds : Bool) (alone : Series → Option Series) (meet : Series → List Placed → Option Series) → Steady (plain (setRuleOf adds alone meet))
+set-rule-steady adds alone meet =
+    plain-steady (setRuleOf adds alone meet)
+    (λ s xs.
+    cond-one (onSide left (s .place .side)) _ _ (left-one alone meet (s .series) (ofSide right xs)) (cond-one adds _ [] (right-one (s .series) (ofSide left xs)) tt))
 
 pub dropping-steady : {f : Rule} → Steady f → Steady (dropping f)
 dropping-steady {f} steady =
@@ -137,11 +182,15 @@ pairs-ascending : (edit : Series → Series → Series) (b : Series) (xs : List 
 pairs-ascending edit b [] a = tt
 pairs-ascending edit b (x ∷ xs) a = (All-on-map _ _ xs (a .0), pairs-ascending edit b xs (a .1))
 
+group-one : (allowance : ℕ) (work : Series → Series) (cs : List Placed) (c : Placed) → AtMostOne (groupOf allowance work cs c)
+group-one allowance work cs c = cond-one (isFirst c (alikeTo c cs)) _ [] (worked-one work (mergedIntoEarliest allowance (alikeTo c cs))) tt
+
 pub joined-steady : (allowance : ℕ) (edit work : Series → Series → Series) (many : Side) → Steady (joined allowance edit work many)
 unfolding groups
 joined-steady allowance edit work many =
     record {
       rises = λ s xs a. rising-cond (onSide many (s .place .side)) (groups allowance (work (s .series)) (pairs edit (s .series) (ofSide (other many) xs)))
-          (rising-gather (groupOf allowance (work (s .series)) (pairs edit (s .series) (ofSide (other many) xs))) (pairs edit (s .series) (ofSide (other many) xs))
+          (rising-gather (groupOf allowance (work (s .series)) (pairs edit (s .series) (ofSide (other many) xs)))
+          (λ c. group-one allowance (work (s .series)) (pairs edit (s .series) (ofSide (other many) xs)) c) (pairs edit (s .series) (ofSide (other many) xs))
           (pairs-ascending edit (s .series) (ofSide (other many) xs) (ascending-keep (λ x. onSide (other many) (x .place .side)) xs a)));
     }
