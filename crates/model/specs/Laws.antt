@@ -4,4 +4,5 @@ pub mod Order
 pub mod Tags
 pub mod Record
 pub mod Edits
+pub mod Query
 pub mod Vector
