@@ -1,0 +1,6 @@
+pub mod Keys
+pub mod Merging
+pub mod Conclude
+pub mod Pairs
+pub mod Joins
+pub mod Sets
