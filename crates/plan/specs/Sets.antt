@@ -87,7 +87,7 @@ leftsFrom s i (k ∷ rest) =
 unfoldable pub rightsFrom : List ℕ → ℕ → List ℕ → List ℕ
 rightsFrom leftKeys j [] = []
 rightsFrom leftKeys j (k ∷ rest) =
-    cond (eqb (firstOf leftKeys k) (length leftKeys)) (length leftKeys + j ∷ rightsFrom leftKeys (suc j) rest) (rightsFrom leftKeys (suc j) rest)
+    cond (eqb (firstOf leftKeys k) (length leftKeys)) ((length leftKeys + j) ∷ rightsFrom leftKeys (suc j) rest) (rightsFrom leftKeys (suc j) rest)
 
 -- 01: Others: left places, then right. A row is a left place, or a right one counted behind the left ones.
 abbrev pub setRows : SetSides → List ℕ
