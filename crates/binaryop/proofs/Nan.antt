@@ -1,16 +1,16 @@
 -- What a test for a NaN shows of a pattern and of a float, and what operators give of it. Assumes nothing.
 use mathlib.Core.Path.{_≡_, refl, sym, _∙_, ap, subst}
-use mathlib.Core.Bool.{Bool, true, false, not, cond}
+use mathlib.Core.Bool.{Bool, true, false, not, cond, _||_}
 use Prim.Native.Nat.{ℕ, _+_, _*_, _%_, _/_, _<_, _≤_}
 use native.Mathlib.Omega.{arith}
 use lib.Dec.{T, ltb}
-use lib.Ieee.{Float, nan, inf, fin, binary64, ofBits, toBits, nanBits, isNan, ne, add, sub, neg, mul, div, rem}
+use lib.Ieee.{Float, nan, inf, fin, binary64, ofBits, toBits, nanBits, isNan, ne, lt, le, eq, add, sub, neg, mul, div, rem}
 use lib.Ieee.Bits.{nanBits-is, nanBits-above}
 use lib.Ieee.Compare.{nan-differs}
 use borrow.Author.Tests.{ltb-true, ltb-false}
 use Rattle.operator.specs.Kinds.{Arithmetic, sum, difference, product, quotient, remainder}
 use Rattle.model.specs.Lists.{cases}
-use Rattle.model.specs.Reading.{missing, noReading, calculated}
+use Rattle.model.specs.Reading.{missing, noReading, calculated, equals}
 use Rattle.binaryop.specs.Leaves.{gapOf}
 
 pub yes : {b : Bool} → b ≡ true → T b
@@ -120,3 +120,59 @@ module _ (a b : ℕ) (h : gapOf a + gapOf b ≡ 0) where
 
   pub right-solid : T (not (nanBits binary64 b))
   right-solid = cases (missing b) (λ e. absurd (omega (arith, h, gap-of-missing b e))) (not-nan b)
+
+-- a comparison that no `nan` passes, at a missing operand
+
+module _ (test : Float → Float → Bool) (first : (y : Float) → test nan y ≡ false) (second : (x : Float) → test x nan ≡ false) where
+  fails-gap : (a b : ℕ) → 0 < gapOf a + gapOf b → test (ofBits binary64 a) (ofBits binary64 b) ≡ false
+  fails-gap a b h =
+      cases (missing a) (λ e. rw (read-missing a e) (first _))
+      (λ e. cases (missing b) (λ f. rw (read-missing b f) (second _))
+      (λ f. absurd (omega (arith, h, gap-of-reading a e, gap-of-reading b f))))
+
+nan-lt : (y : Float) → lt nan y ≡ false
+unfolding lt
+nan-lt y = refl
+
+lt-nan : (x : Float) → lt x nan ≡ false
+unfolding lt
+lt-nan nan = refl
+lt-nan (inf s) = refl
+lt-nan (fin s m e) = refl
+
+nan-eq : (y : Float) → eq nan y ≡ false
+unfolding eq
+nan-eq y = refl
+
+eq-nan : (x : Float) → eq x nan ≡ false
+unfolding eq
+eq-nan nan = refl
+eq-nan (inf s) = refl
+eq-nan (fin s m e) = refl
+
+nan-le : (y : Float) → le nan y ≡ false
+unfolding le
+nan-le y = rw (nan-lt y, nan-eq y)
+
+le-nan : (x : Float) → le x nan ≡ false
+unfolding le
+le-nan x = rw (lt-nan x, eq-nan x)
+
+pub lt-fails : (a b : ℕ) → 0 < gapOf a + gapOf b → lt (ofBits binary64 a) (ofBits binary64 b) ≡ false
+lt-fails = fails-gap lt nan-lt lt-nan
+
+pub le-fails : (a b : ℕ) → 0 < gapOf a + gapOf b → le (ofBits binary64 a) (ofBits binary64 b) ≡ false
+le-fails = fails-gap le nan-le le-nan
+
+pub eq-fails : (a b : ℕ) → 0 < gapOf a + gapOf b → eq (ofBits binary64 a) (ofBits binary64 b) ≡ false
+eq-fails = fails-gap eq nan-eq eq-nan
+
+-- 01: Equality with both N is true
+pub equals-told : (a b : ℕ) → (ltb 1 (gapOf a + gapOf b) || eq (ofBits binary64 a) (ofBits binary64 b)) ≡ equals a b
+unfolding equals
+equals-told a b =
+    cases (missing a)
+    (λ e. cases (missing b)
+    (λ f. rw (gap-of-missing a e, gap-of-missing b f, e, f))
+    (λ f. rw (gap-of-missing a e, gap-of-reading b f, e, f) (eq-fails a b (omega (arith, gap-of-missing a e)))))
+    (λ e. cases (missing b) (λ f. rw (gap-of-reading a e, gap-of-missing b f, e)) (λ f. rw (gap-of-reading a e, gap-of-reading b f, e)))

@@ -1,9 +1,9 @@
 // Readings, the operators on two of them, and rows. A reading is the 64 bits of a binary64; it is missing where they are a NaN's.
 ghost use mathlib.Core.Path.{_≡_};
-ghost use mathlib.Core.Bool.{cond, not};
+ghost use mathlib.Core.Bool.{cond, not, _||_};
 ghost use Prim.Native.Nat.{_+_};
 ghost use lib.Dec.{T};
-ghost use lib.Ieee.{binary64, ofBits, toBits, nanBits};
+ghost use lib.Ieee.{binary64, ofBits, toBits, nanBits, eq};
 ghost use Rattle.operator.specs.Kinds.{sum, difference, product, quotient, remainder, equal, unequal, less, atMost, greater, atLeast};
 ghost use Rattle.model.specs.Reading.{missing, calculated, holds, compared, scalarOp, oneOrZero};
 ghost use Rattle.binaryop.specs.Leaves.{gapOf, comparisonValue, whereReading, whereMissing, filledFrom};
@@ -110,44 +110,69 @@ pub fn op_mod(left: u64, right: u64) -> u64
     written(f64::from_bits(left) % f64::from_bits(right))
 }
 
-// Two missing readings are equal.
-pub fn op_eq(left: u64, right: u64) -> bool
-    ensures { λ r. ⌜ r ≡ holds equal left right ⌝ }
+fn either(a: bool, b: bool) -> bool
+    ensures { λ r. ⌜ r ≡ a || b ⌝ }
 {
-    if is_missing(left) {
-        return is_missing(right);
-    }
-    read(left) == read(right)
+    if a { true } else { b }
 }
 
-pub fn op_neq(left: u64, right: u64) -> bool
+// Whether both are readings and equal.
+fn same(left: u64, right: u64) -> bool
+    ensures { λ r. ⌜ r ≡ eq (ofBits binary64 left) (ofBits binary64 right) ⌝ }
+{
+    if gaps(left, right) > 0 {
+        return false;
+    }
+    f64::from_bits(left) == f64::from_bits(right)
+}
+
+// Two missing readings are equal.
+fn op_eq(left: u64, right: u64) -> bool
+    ensures { λ r. ⌜ r ≡ holds equal left right ⌝ }
+{
+    either(gaps(left, right) > 1, same(left, right))
+}
+
+fn op_neq(left: u64, right: u64) -> bool
     ensures { λ r. ⌜ r ≡ holds unequal left right ⌝ }
 {
     !op_eq(left, right)
 }
 
-pub fn op_lt(left: u64, right: u64) -> bool
+fn op_lt(left: u64, right: u64) -> bool
     ensures { λ r. ⌜ r ≡ holds less left right ⌝ }
 {
-    read(left) < read(right)
+    if gaps(left, right) > 0 {
+        return false;
+    }
+    f64::from_bits(left) < f64::from_bits(right)
 }
 
-pub fn op_lte(left: u64, right: u64) -> bool
+fn op_lte(left: u64, right: u64) -> bool
     ensures { λ r. ⌜ r ≡ holds atMost left right ⌝ }
 {
-    read(left) <= read(right)
+    if gaps(left, right) > 0 {
+        return false;
+    }
+    f64::from_bits(left) <= f64::from_bits(right)
 }
 
-pub fn op_gt(left: u64, right: u64) -> bool
+fn op_gt(left: u64, right: u64) -> bool
     ensures { λ r. ⌜ r ≡ holds greater left right ⌝ }
 {
-    read(right) < read(left)
+    if gaps(left, right) > 0 {
+        return false;
+    }
+    f64::from_bits(right) < f64::from_bits(left)
 }
 
-pub fn op_gte(left: u64, right: u64) -> bool
+fn op_gte(left: u64, right: u64) -> bool
     ensures { λ r. ⌜ r ≡ holds atLeast left right ⌝ }
 {
-    read(right) <= read(left)
+    if gaps(left, right) > 0 {
+        return false;
+    }
+    f64::from_bits(right) <= f64::from_bits(left)
 }
 
 fn one_or_zero(b: bool) -> u64

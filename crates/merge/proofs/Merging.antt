@@ -71,7 +71,7 @@ module _ (d s : List ℕ) where
       count-turn = record {
         within = omega arith;
         fewer = omega (arith, both-at-most (getD d i 0) (getD s i 0), k .fewer);
-        rest = omega (arith, k .rest, overlaps-step h (omega arith))
+        rest = omega (arith, k .rest, overlaps-step h (omega arith));
       }
 
       pub count-fits : n + v ≤ i + 1
@@ -107,7 +107,7 @@ module _ (before s : List ℕ) where
     overwrite-turn v e same h = record {
       long = simp length-set (o .long);
       within = simp length-set (omega arith);
-      rest = overwrite-step v e h (omega arith) ∙ o .rest
+      rest = overwrite-step v e h (omega arith) ∙ o .rest;
     }
 
     over : length d ≤ i → take i d ++ overwritten (drop i d) (drop i s) ≡ d

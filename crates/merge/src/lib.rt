@@ -18,7 +18,7 @@ fn both(x: u64, y: u64) -> usize
 }
 
 // At how many places both rows have a reading.
-pub fn overlaps(dst: &[u64], src: &[u64]) -> usize
+fn overlaps(dst: &[u64], src: &[u64]) -> usize
     requires { ⌜ length (now src) ≡ length (now dst) ⌝ }
     ensures { λ r. ⌜ r ≡ overlaps (now (dst .entry)) (now (src .entry)) ⌝ }
 {
@@ -39,7 +39,7 @@ fn source_first(x: u64, y: u64) -> u64
 }
 
 // The source's readings over the destination's.
-pub fn overwrite(dst: &mut [u64], src: &[u64])
+fn overwrite(dst: &mut [u64], src: &[u64])
     requires { ⌜ length (now src) ≡ length (now dst) ⌝ }
     ensures { λ _. ⌜ now (dst .exit) ≡ overwritten (now (dst .entry)) (now (src .entry)) ⌝ }
 {

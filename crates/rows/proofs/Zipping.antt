@@ -27,7 +27,7 @@ module _ (f : ℕ → ℕ → ℕ) (left right before : List ℕ) where
     turn v e hl hr h = record {
       long = simp length-set (w .long);
       within = simp length-set (omega arith);
-      rest = step v e (omega arith) (omega arith) h ∙ w .rest
+      rest = step v e (omega arith) (omega arith) h ∙ w .rest;
     }
 
     over : length left ≤ i → length row ≤ i → take i row ++ zipWith f (drop i left) (drop i right) ≡ row
