@@ -1,3 +1,5 @@
 pub mod Bytes
 pub mod Fields
 pub mod Names
+pub mod TagsRead
+pub mod RecordsRead

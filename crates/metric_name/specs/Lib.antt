@@ -1,3 +1,5 @@
 pub mod Fields
 pub mod Names
 pub mod Matchings
+pub mod Lenient
+pub mod Records
