@@ -7,3 +7,4 @@ pub mod Record
 pub mod Edits
 pub mod Query
 pub mod Vector
+pub mod Laws
