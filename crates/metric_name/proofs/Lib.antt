@@ -3,3 +3,5 @@ pub mod Fields
 pub mod Names
 pub mod TagsRead
 pub mod RecordsRead
+pub mod Cursors
+pub mod Keys

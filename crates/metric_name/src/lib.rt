@@ -4,12 +4,19 @@ ghost use Prim.Native.Nat.{_+_, _-_, _≤_, _<_};
 ghost use lib.ListN.{length, take, drop};
 ghost use mathlib.Core.Bool.{true, _&&_};
 ghost use mathlib.Core.List.{[]};
-ghost use Rattle.model.specs.Labels.{below, sameBytes, mayFollow};
-ghost use Rattle.model.specs.Record.{decodeTags, decode};
+ghost use mathlib.Core.Option.{some};
+ghost use Rattle.model.specs.Labels.{below, sameBytes, mayFollow, valueOf, sameTags};
+ghost use Rattle.model.specs.Record.{decodeTags, decode, lookup, valuePart};
+ghost use Rattle.model.specs.Query.{keyOf};
 ghost use Rattle.model.specs.Edits.{isListed, isStar};
 ghost use Rattle.metric_name.specs.Fields.{fieldAt};
 ghost use Rattle.metric_name.specs.Names.{namesOf};
-ghost use Rattle.metric_name.specs.Records.{recordOf, tagsJudged};
+ghost use Rattle.metric_name.specs.Records.{recordOf, tagsJudged, refusalOf};
+ghost use Rattle.metric_name.specs.Lenient.{labelsOf};
+ghost use Rattle.metric_name.specs.Cursors.{TagsOf, NextAt, every};
+ghost use Rattle.metric_name.specs.Matchings.{matchingOf};
+ghost use Rattle.metric_name.specs.Keys.{isChosen, recordKey, hashBytes, hashOf};
+ghost use Rattle.metric_name.specs.Lookups.{FoundAt, ValueAt, isSome, stateOf, stateNumber};
 
 pub fn same_bytes(a: &[u8], b: &[u8]) -> bool
     ensures { λ r. ⌜ r ≡ sameBytes (now (a .entry)) (now (b .entry)) ⌝ }
@@ -190,4 +197,123 @@ pub fn read_record(s: &[u8], at: usize) -> Record
         return Record::Cut;
     }
     read_tags(s, end + 1, n)
+}
+
+// Where a record's tags stand, and how many there are.
+pub struct Tags {
+    pub at: usize,
+    pub count: usize,
+}
+
+pub fn tags_of(rec: &[u8]) -> Tags
+    ensures { λ r. ⌜ TagsOf (now (rec .entry)) r ⌝ }
+{
+    match field_at(rec, 0) {
+        Place::At { start: _, end } => {
+            if end < rec.len() {
+                Tags {
+                    at: end + 1,
+                    count: rec[end] as usize,
+                }
+            } else {
+                Tags { at: 0, count: 0 }
+            }
+        }
+        Place::Short => Tags { at: 0, count: 0 },
+    }
+}
+
+// A tag: its bytes are start..end, its key's are key..key_end, its value's key_end + 1..end; and how many tags are left behind it.
+pub enum Next {
+    Tag {
+        start: usize,
+        key: usize,
+        key_end: usize,
+        end: usize,
+        left: usize,
+    },
+    End,
+}
+
+// The first of the n tags at a place.
+pub fn next_tag(s: &[u8], at: usize, n: usize) -> Next
+    ensures { λ r. ⌜ NextAt every (now (s .entry)) n at r ⌝ }
+{
+    if n == 0 {
+        return Next::End;
+    }
+    let Place::At {
+        start: key,
+        end: key_end,
+    } = field_at(s, at)
+    else {
+        return Next::End;
+    };
+    let Place::At { start: _, end } = field_at(s, key_end) else {
+        return Next::End;
+    };
+    Next::Tag {
+        start: at,
+        key,
+        key_end,
+        end,
+        left: n - 1,
+    }
+}
+
+// Whether a matching puts the tags of a label into the key.
+pub fn is_chosen(matching: Matching, list: &[u8], label: &[u8]) -> bool
+    ensures { λ r. ⌜ r ≡ isChosen (matchingOf matching) (namesOf (now (list .entry))) (now (label .entry)) ⌝ }
+{
+    match matching {
+        Matching::All => true,
+        Matching::On => in_list(list, label),
+        Matching::Ignoring => !in_list(list, label),
+    }
+}
+
+// The first of the n tags at a place that is in the key.
+pub fn next_chosen(s: &[u8], at: usize, n: usize, matching: Matching, list: &[u8]) -> Next
+    ensures { λ r. ⌜ NextAt (keyOf (matchingOf matching) (namesOf (now (list .entry)))) (now (s .entry)) n at r ⌝ }
+{
+    let mut p = at;
+    let mut m = n;
+    loop {
+        let Next::Tag {
+            start,
+            key,
+            key_end,
+            end,
+            left,
+        } = next_tag(s, p, m)
+        else {
+            return Next::End;
+        };
+        if is_chosen(matching, list, &s[key..key_end]) {
+            return Next::Tag {
+                start,
+                key,
+                key_end,
+                end,
+                left,
+            };
+        }
+        p = end;
+        m = left;
+    }
+}
+
+// Where a value stands, or why it does not.
+pub enum Value {
+    At { start: usize, end: usize },
+    Absent,
+    Cut,
+    BadKey,
+}
+
+pub enum TagState {
+    Present,
+    Absent,
+    Cut,
+    BadKey,
 }
