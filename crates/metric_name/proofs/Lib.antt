@@ -5,3 +5,4 @@ pub mod TagsRead
 pub mod RecordsRead
 pub mod Cursors
 pub mod Keys
+pub mod Lookups

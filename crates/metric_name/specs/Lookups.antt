@@ -45,6 +45,10 @@ pub record FoundAt (s : List ℕ) (r : Place) (o : Option (List ℕ)) : Type 0 w
   pub bytes : bytesAt s r ≡ o
   pub within : Within s r
 
+abbrev pub valueFrom : Place → Value
+valueFrom (At start end) = Vs.At start end
+valueFrom Short = Vs.Absent
+
 abbrev pub lookupAt : List ℕ → Value → Lookup
 lookupAt s (Vs.At start end) = present (take (end - start) (drop start s))
 lookupAt s Vs.Absent = absent

@@ -15,8 +15,8 @@ ghost use Rattle.metric_name.specs.Records.{recordOf, tagsJudged, refusa
 ghost use Rattle.metric_name.specs.Lenient.{labelsOf};
 ghost use Rattle.metric_name.specs.Cursors.{TagsOf, NextAt, every};
 ghost use Rattle.metric_name.specs.Matchings.{matchingOf};
-ghost use Rattle.metric_name.specs.Keys.{isChosen, recordKey, hashBytes, hashOf};
-ghost use Rattle.metric_name.specs.Lookups.{FoundAt, ValueAt, isSome, stateOf, stateNumber};
+ghost use Rattle.metric_name.specs.Keys.{isChosen, recordKey, hashByte, hashBytes, hashOf};
+ghost use Rattle.metric_name.specs.Lookups.{FoundAt, ValueAt, valueFrom, isSome, stateOf, stateNumber};
 
 pub fn same_bytes(a: &[u8], b: &[u8]) -> bool
     ensures { λ r. ⌜ r ≡ sameBytes (now (a .entry)) (now (b .entry)) ⌝ }
@@ -303,7 +303,55 @@ pub fn next_chosen(s: &[u8], at: usize, n: usize, matching: Matching, list: &[u8
     }
 }
 
-// Where a value stands, or why it does not.
+// Where a record's name stands.
+pub fn find_name(rec: &[u8]) -> Place
+    ensures { λ r. ⌜ FoundAt (now (rec .entry)) r (some (labelsOf (now (rec .entry)) .name)) ⌝ }
+{
+    match field_at(rec, 0) {
+        Place::At { start, end } => Place::At { start, end },
+        Place::Short => Place::At { start: 0, end: 0 },
+    }
+}
+
+// Where the value of a key stands in a record.
+pub fn find_tag(rec: &[u8], key: &[u8]) -> Place
+    ensures { λ r. ⌜ FoundAt (now (rec .entry)) r (valueOf (now (key .entry)) (labelsOf (now (rec .entry)) .tags)) ⌝ }
+{
+    let t = tags_of(rec);
+    let mut p = t.at;
+    let mut n = t.count;
+    loop {
+        let Next::Tag {
+            start: _,
+            key: k,
+            key_end,
+            end,
+            left,
+        } = next_tag(rec, p, n)
+        else {
+            return Place::Short;
+        };
+        if same_bytes(&rec[k..key_end], key) {
+            return Place::At {
+                start: key_end + 1,
+                end,
+            };
+        }
+        p = end;
+        n = left;
+    }
+}
+
+pub fn has_tag(rec: &[u8], key: &[u8]) -> bool
+    ensures { λ r. ⌜ r ≡ isSome (valueOf (now (key .entry)) (labelsOf (now (rec .entry)) .tags)) ⌝ }
+{
+    match find_tag(rec, key) {
+        Place::At { start: _, end: _ } => true,
+        Place::Short => false,
+    }
+}
+
+// Where the value of a label stands, or why it does not.
 pub enum Value {
     At { start: usize, end: usize },
     Absent,
@@ -311,9 +359,158 @@ pub enum Value {
     BadKey,
 }
 
+// A place, as the answer of a lookup.
+fn value_at(place: Place) -> Value
+    ensures { λ r. ⌜ r ≡ valueFrom place ⌝ }
+{
+    match place {
+        Place::At { start, end } => Value::At { start, end },
+        Place::Short => Value::Absent,
+    }
+}
+
+// Looks a label up in the record at the start of the bytes.
+pub fn find_value(labels: &[u8], key: &[u8]) -> Value
+    ensures { λ r. ⌜ ValueAt (now (labels .entry)) r (lookup (now (labels .entry)) (now (key .entry))) ⌝ }
+{
+    match read_record(labels, 0) {
+        Record::Ok { next: _ } => {
+            if same_bytes(key, b"__name__") {
+                value_at(find_name(labels))
+            } else {
+                value_at(find_tag(labels, key))
+            }
+        }
+        Record::Cut => Value::Cut,
+        Record::BadKey => Value::BadKey,
+    }
+}
+
+// What the lookup of a label in the record at the start of the bytes comes to.
 pub enum TagState {
     Present,
     Absent,
     Cut,
     BadKey,
+}
+
+pub fn tag_state(labels: &[u8], key: &[u8]) -> TagState
+    ensures { λ r. ⌜ r ≡ stateOf (lookup (now (labels .entry)) (now (key .entry))) ⌝ }
+    ensures { λ r. ⌜ stateNumber r ≡ refusalOf (decode (now (labels .entry))) ⌝ }
+{
+    match find_value(labels, key) {
+        Value::At { start: _, end: _ } => TagState::Present,
+        Value::Absent => TagState::Absent,
+        Value::Cut => TagState::Cut,
+        Value::BadKey => TagState::BadKey,
+    }
+}
+
+// The value of a label, as a part of the bytes; nothing unless it is present.
+pub fn tag_value<'a>(labels: &'a [u8], key: &[u8]) -> &'a [u8]
+    ensures { λ r. ⌜ now r ≡ valuePart (lookup (now (labels .entry)) (now (key .entry))) ⌝ }
+{
+    match find_value(labels, key) {
+        Value::At { start, end } => &labels[start..end],
+        Value::Absent => &labels[..0],
+        Value::Cut => &labels[..0],
+        Value::BadKey => &labels[..0],
+    }
+}
+
+// Whether two records have the same key.
+pub fn same_key(a: &[u8], b: &[u8], matching: Matching, list: &[u8]) -> bool
+    ensures { λ r. ⌜ r ≡ sameTags (recordKey (matchingOf matching) (now (list .entry)) (now (a .entry))) (recordKey (matchingOf matching) (now (list .entry)) (now (b .entry))) ⌝ }
+{
+    let h = tags_of(a);
+    let k = tags_of(b);
+    let mut p = h.at;
+    let mut m = h.count;
+    let mut q = k.at;
+    let mut n = k.count;
+    loop {
+        let x = next_chosen(a, p, m, matching, list);
+        let y = next_chosen(b, q, n, matching, list);
+        match x {
+            Next::Tag {
+                start,
+                key: _,
+                key_end: _,
+                end,
+                left,
+            } => match y {
+                Next::Tag {
+                    start: begin,
+                    key: _,
+                    key_end: _,
+                    end: stop,
+                    left: rest,
+                } => {
+                    if same_bytes(&a[start..end], &b[begin..stop]) {
+                        p = end;
+                        m = left;
+                        q = stop;
+                        n = rest;
+                    } else {
+                        return false;
+                    }
+                }
+                Next::End => return false,
+            },
+            Next::End => match y {
+                Next::Tag {
+                    start: _,
+                    key: _,
+                    key_end: _,
+                    end: _,
+                    left: _,
+                } => return false,
+                Next::End => return true,
+            },
+        }
+    }
+}
+
+fn hash_byte(h: u64, b: u8) -> u64
+    ensures { λ r. ⌜ r ≡ hashByte h b ⌝ }
+{
+    (h % 0x80_0000_0000) * 16777619 + b as u64
+}
+
+// A hash h carried on over bytes.
+pub fn hash_bytes(h: u64, s: &[u8]) -> u64
+    ensures { λ r. ⌜ r ≡ hashBytes h (now (s .entry)) ⌝ }
+{
+    let mut x = h;
+    let mut i = 0;
+    while i < s.len() {
+        x = hash_byte(x, s[i]);
+        i += 1;
+    }
+    x
+}
+
+// A number that records of the same key share.
+pub fn hash_key(rec: &[u8], matching: Matching, list: &[u8]) -> u64
+    ensures { λ r. ⌜ r ≡ hashOf (recordKey (matchingOf matching) (now (list .entry)) (now (rec .entry))) ⌝ }
+{
+    let t = tags_of(rec);
+    let mut x: u64 = 0;
+    let mut p = t.at;
+    let mut n = t.count;
+    loop {
+        let Next::Tag {
+            start,
+            key: _,
+            key_end: _,
+            end,
+            left,
+        } = next_chosen(rec, p, n, matching, list)
+        else {
+            return x;
+        };
+        x = hash_bytes(x, &rec[start..end]);
+        p = end;
+        n = left;
+    }
 }
