@@ -10,11 +10,12 @@ use mir.Val.{Fits}
 use lib.ListN.{length, take, drop}
 use Rattle.model.specs.Labels.{sameBytes, nameLabel, valueOf}
 use Rattle.model.specs.Record.{Decoded, decoded, cut, badKey, decode, Lookup, present, foundAs, lookupIn, lookup, valuePart}
+use Rattle.model.specs.Laws.SetTags.{isNone}
 use Rattle.metric_name.specs.Fields.{fieldAt}
 use Rattle.metric_name.specs.Lenient.{tagsUpTo, labelsOf, labels-decoded}
 use Rattle.metric_name.specs.Cursors.{NextAt, every}
 use Rattle.metric_name.specs.Records.{recordOf, refusalOf}
-use Rattle.metric_name.specs.Lookups.{stateOf, stateNumber, isSome, FoundAt, valueFrom, lookupAt, ValueWithin, ValueAt}
+use Rattle.metric_name.specs.Lookups.{stateOf, stateNumber, FoundAt, valueFrom, lookupAt, ValueWithin, ValueAt}
 use Rattle.metric_name.specs.declared.Place.{Place}
 use Rattle.metric_name.specs.declared.Place.the-variants.{At, Short}
 use Rattle.metric_name.specs.declared.Next.{Next}
@@ -64,13 +65,13 @@ value-room s n p x hx b a e z m ex g =
     let w = next-stands every s n p x hx b a e z m ex in
     omega (arith, w .valueOrder, w .within)
 
--- `has_tag`
+-- `lacks_tag`
 module _ (s : List ℕ) (x : Place) (o : Option (List ℕ)) (hx : FoundAt s x o) where
-  pub tag-there : (a e : ℕ) → x ≡ At a e → true ≡ isSome o
-  tag-there a e ex = ap isSome (rw ex at (hx .bytes))
+  pub tag-there : (a e : ℕ) → x ≡ At a e → false ≡ isNone o
+  tag-there a e ex = ap isNone (rw ex at (hx .bytes))
 
-  pub tag-not-there : x ≡ Short → false ≡ isSome o
-  tag-not-there ex = ap isSome (rw ex at (hx .bytes))
+  pub tag-not-there : x ≡ Short → true ≡ isNone o
+  tag-not-there ex = ap isNone (rw ex at (hx .bytes))
 
 -- `value_at`
 module _ (x : Place) where

@@ -1,9 +1,10 @@
 -- A walk over the tags of a record: where the next tag stands, and what is left behind it. Assumes nothing.
 use Prim.Native.Nat.{ℕ, _+_, _-_, _≤_, _<_}
-use mathlib.Core.Path.{_≡_, sym}
+use mathlib.Core.Path.{_≡_, refl, sym}
 use mathlib.Core.Bool.{Bool, cond}
 use mathlib.Core.List.{List, [], _∷_, _++_, append-assoc}
 use lib.ListN.{length, take, drop}
+use Rattle.model.specs.Lists.{keep}
 use Rattle.model.specs.Labels.{Tag}
 use Rattle.model.specs.Record.{encodeField, encodeTags}
 use Rattle.metric_name.specs.Lenient.{tagsUpTo, labelsOf}
@@ -59,3 +60,6 @@ every ts = ts
 pub record Sieve (test : List ℕ → Bool) (f : List Tag → List Tag) : Type 0 where
   pub none : f [] ≡ []
   pub one : (t : Tag) (ts : List Tag) → f (t ∷ ts) ≡ cond (test (t .key)) (t ∷ f ts) (f ts)
+
+pub keep-sieve : (test : List ℕ → Bool) → Sieve test (keep (λ t. test (t .key)))
+keep-sieve test = record { none = refl; one = λ t ts. refl }

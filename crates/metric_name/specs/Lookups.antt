@@ -1,7 +1,6 @@
 -- What tag lookup answers, and 01's numbers for it. Assumes nothing.
 use Prim.Native.Nat.{ℕ, _-_, _≤_}
 use mathlib.Core.Path.{_≡_}
-use mathlib.Core.Bool.{Bool, true, false}
 use mathlib.Core.Option.{Option, none, some}
 use mathlib.Core.List.{List}
 use lib.ListN.{length, take, drop}
@@ -26,10 +25,6 @@ stateNumber Present = 0
 stateNumber Absent = 0
 stateNumber Cut = 3
 stateNumber BadKey = 4
-
-abbrev pub isSome : Option (List ℕ) → Bool
-isSome none = false
-isSome (some v) = true
 
 -- the bytes at a place
 abbrev pub bytesAt : List ℕ → Place → Option (List ℕ)

@@ -1,14 +1,15 @@
 -- The labels of a list's bytes, as far as they can be read. Assumes nothing.
-use Prim.Native.Nat.{ℕ, zero, suc}
-use mathlib.Core.Path.{_≡_, refl}
-use mathlib.Core.Bool.{Bool, true, false, cond}
-use mathlib.Core.List.{List, [], _∷_}
+use Prim.Native.Nat.{ℕ, zero, suc, _-_}
+use mathlib.Core.Path.{_≡_, refl, sym, ap, _∙_}
+use mathlib.Core.List.{List, [], _∷_, _++_, append-assoc, append-nil}
 use native.Mathlib.Omega.{arith}
-use lib.Dec.{leb}
-use Rattle.model.specs.Limits.{maxListed}
-use Rattle.model.specs.Record.{Field, short, field, readField, onField}
+use lib.ListN.{length, take, length-append}
+use lib.Seq.{take-at}
+use Rattle.model.specs.Record.{readField, onField}
 use Rattle.model.specs.Edits.{Names}
-use Rattle.model.specs.Query.{Listed, notListed, listed, withName, namesIn, listIn}
+use Rattle.model.specs.Query.{listed, listIn}
+use Rattle.model.specs.Laws.Record.{read-field}
+use Rattle.model.specs.Laws.Query.{encodeNames, encodeList, list-is}
 
 -- the first n labels; a label that is cut ends them
 unfoldable pub namesUpTo : ℕ → List ℕ → Names
@@ -20,33 +21,35 @@ unfoldable pub namesOf : List ℕ → Names
 namesOf [] = []
 namesOf (n ∷ s) = namesUpTo n s
 
--- a list that is taken has these labels
+-- labels that were written are read, whatever follows them
 
-not-listed : {X : Type 0} (ns : Names) (rest : List ℕ) → notListed ≡ listed ns rest → X
-not-listed ns rest e = absurd (let z : _≡_ {A = ℕ} 0 1 = cc in omega arith)
+names-up-to : (ns : Names) (r : List ℕ) → namesUpTo (length ns) (encodeNames ns ++ r) ≡ ns
+unfolding namesUpTo
+names-up-to [] r = refl
+names-up-to (n ∷ ns) r = simp (append-assoc, read-field n, names-up-to ns r)
 
-names-read : (n : ℕ) (s : List ℕ) (ns : Names) (rest : List ℕ) → namesIn n s ≡ listed ns rest → namesUpTo n s ≡ ns
-unfolding namesIn namesUpTo
-names-read zero s ns rest e = cc
-names-read (suc n) s ns rest e = go (names-read n) (readField s) e
-  where
-    Fewer : Type 0
-    Fewer = (s : List ℕ) (ns : Names) (rest : List ℕ) → namesIn n s ≡ listed ns rest → namesUpTo n s ≡ ns
+pub names-encoded : (ns : Names) (r : List ℕ) → namesOf (encodeList ns ++ r) ≡ ns
+unfolding namesOf
+names-encoded ns r = names-up-to ns r
 
-    last : Fewer → (y : ℕ) (x s₁ : List ℕ) (l : Listed) → namesIn n s₁ ≡ l → withName (y ∷ x) l ≡ listed ns rest → (y ∷ x) ∷ namesUpTo n s₁ ≡ ns
-    last ih y x s₁ notListed h e = not-listed ns rest e
-    last ih y x s₁ (listed ms r) h e = cc (ih s₁ ms r h)
+-- what stands before the rest
+pub front : (s x rest : List ℕ) → s ≡ x ++ rest → take (length s - length rest) s ≡ x
+front s x rest h =
+    let n : length x ≡ length s - length rest = omega (arith, ap length h, length-append x rest) in
+    ap (take (length s - length rest)) h ∙ take-at x rest (length s - length rest) n
 
-    go : Fewer → (f : Field) → onField f notListed (λ x s₁. withName x (namesIn n s₁)) ≡ listed ns rest → onField f [] (λ x s₁. x ∷ namesUpTo n s₁) ≡ ns
-    go ih short e = not-listed ns rest e
-    go ih (field [] s₁) e = not-listed ns rest e
-    go ih (field (y ∷ x) s₁) e = last ih y x s₁ (namesIn n s₁) refl e
+-- a list that is taken has these labels; so have the bytes of the list alone, and with others behind them
 
-pub names-listed : (s : List ℕ) (ns : Names) (rest : List ℕ) → listIn s ≡ listed ns rest → namesOf s ≡ ns
-unfolding listIn namesOf
-names-listed [] ns rest e = not-listed ns rest e
-names-listed (n ∷ s) ns rest e = go (leb n maxListed) e
-  where
-    go : (b : Bool) → cond b (namesIn n s) notListed ≡ listed ns rest → namesUpTo n s ≡ ns
-    go true e = names-read n s ns rest e
-    go false e = not-listed ns rest e
+module _ (s : List ℕ) (ns : Names) (rest : List ℕ) (e : listIn s ≡ listed ns rest) where
+  bytes : s ≡ encodeList ns ++ rest
+  bytes = list-is s ns rest e .bytes
+
+  pub names-listed : namesOf s ≡ ns
+  names-listed = rw bytes (names-encoded ns rest)
+
+  pub names-before : (t : List ℕ) → namesOf (s ++ t) ≡ ns
+  names-before t = rw (bytes, append-assoc) (names-encoded ns (rest ++ t))
+
+  pub names-alone : namesOf (take (length s - length rest) s) ≡ ns
+  names-alone =
+      rw (front s (encodeList ns) rest bytes) (ap namesOf (sym (append-nil (encodeList ns))) ∙ names-encoded ns [])

@@ -8,6 +8,7 @@ ghost use mathlib.Core.Option.{some};
 ghost use Rattle.model.specs.Labels.{below, sameBytes, mayFollow, valueOf, sameTags};
 ghost use Rattle.model.specs.Record.{decodeTags, decode, lookup, valuePart};
 ghost use Rattle.model.specs.Query.{keyOf};
+ghost use Rattle.model.specs.Laws.SetTags.{isNone};
 ghost use Rattle.model.specs.Edits.{isListed, isStar};
 ghost use Rattle.metric_name.specs.Fields.{fieldAt};
 ghost use Rattle.metric_name.specs.Names.{namesOf};
@@ -16,7 +17,7 @@ ghost use Rattle.metric_name.specs.Lenient.{labelsOf};
 ghost use Rattle.metric_name.specs.Cursors.{TagsOf, NextAt, every};
 ghost use Rattle.metric_name.specs.Matchings.{matchingOf};
 ghost use Rattle.metric_name.specs.Keys.{isChosen, recordKey, hashByte, hashBytes, hashOf};
-ghost use Rattle.metric_name.specs.Lookups.{FoundAt, ValueAt, valueFrom, isSome, stateOf, stateNumber};
+ghost use Rattle.metric_name.specs.Lookups.{FoundAt, ValueAt, valueFrom, stateOf, stateNumber};
 
 pub fn same_bytes(a: &[u8], b: &[u8]) -> bool
     ensures { λ r. ⌜ r ≡ sameBytes (now (a .entry)) (now (b .entry)) ⌝ }
@@ -342,12 +343,13 @@ pub fn find_tag(rec: &[u8], key: &[u8]) -> Place
     }
 }
 
-pub fn has_tag(rec: &[u8], key: &[u8]) -> bool
-    ensures { λ r. ⌜ r ≡ isSome (valueOf (now (key .entry)) (labelsOf (now (rec .entry)) .tags)) ⌝ }
+// Whether a record has no tag of a key.
+pub fn lacks_tag(rec: &[u8], key: &[u8]) -> bool
+    ensures { λ r. ⌜ r ≡ isNone (valueOf (now (key .entry)) (labelsOf (now (rec .entry)) .tags)) ⌝ }
 {
     match find_tag(rec, key) {
-        Place::At { start: _, end: _ } => true,
-        Place::Short => false,
+        Place::At { start: _, end: _ } => false,
+        Place::Short => true,
     }
 }
 
