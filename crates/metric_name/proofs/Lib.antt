@@ -1,0 +1,4 @@
+pub mod TagsRead
+pub mod RecordsRead
+pub mod Cursors
+pub mod Lookups

@@ -1,0 +1,4 @@
+pub mod Records
+pub mod Lenient
+pub mod Cursors
+pub mod Lookups
