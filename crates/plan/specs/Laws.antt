@@ -1,3 +1,4 @@
 pub mod Settling
 pub mod Keyed
 pub mod Merging
+pub mod Pairs

@@ -29,9 +29,10 @@ RowsAt p rows i (b ∷ bs) = (rowAt p rows i ≡ b .row) × RowsAt p rows (suc i
 rows-behind : (p i : ℕ) (front : List ℕ) (bs : List Series) → length front ≡ i * p → All (λ b. length (b .row) ≡ p) bs → RowsAt p (front ++ readingsOf bs) i bs
 unfolding readingsOf
 rows-behind p i front [] h w = tt
-rows-behind p i front (b ∷ bs) h w =
-    (rw (← h, drop-append-seam front (b .row ++ readingsOf bs), ← (w .0)) (take-append-seam (b .row) (readingsOf bs)),
-     rw (← (append-assoc front (b .row) (readingsOf bs))) (rows-behind p (suc i) (front ++ b .row) bs (length-append front (b .row) ∙ (omega (arith, h, w .0))) (w .1)))
+rows-behind p i front (b ∷ bs) h w = (
+  rw (← h, drop-append-seam front (b .row ++ readingsOf bs), ← (w .0)) (take-append-seam (b .row) (readingsOf bs)),
+  rw (← (append-assoc front (b .row) (readingsOf bs))) (rows-behind p (suc i) (front ++ b .row) bs (length-append front (b .row) ∙ (omega (arith, h, w .0))) (w .1)),
+)
 
 -- so do those of a side
 pub rows-of : (p : ℕ) (bs : List Series) → All (λ b. length (b .row) ≡ p) bs → RowsAt p (readingsOf bs) 0 bs
