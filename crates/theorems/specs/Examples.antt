@@ -8,13 +8,14 @@ use Rattle.model.specs.Query.{Side, left, right}
 use Rattle.model.specs.Vector.{Series}
 use Rattle.semantics.specs.Call.{Outcome, refused}
 use Rattle.semantics.specs.Computing.{computing}
-use Rattle.semantics.specs.Examples.Notation.{N, r1, r2, r3, r5, press, A, B, series, plainly, on, gives}
+use Rattle.model.specs.Examples.Numbers.{five, one, three, two}
+use Rattle.semantics.specs.Examples.Notation.{N, press, A, B, series, plainly, on, gives}
 use Rattle.theorems.specs.Claims.Dealing.{Deal, secondPile, wholePlaces}
 use Rattle.theorems.specs.Claims.Partition.{pileCall}
 
 -- the whole call and the two piles' calls, with `vecop`'s output parts
-abbrev three : List ℕ → ℕ → Deal → List Series → List Series → List Outcome
-three q points deal ls rs =
+abbrev calls : List ℕ → ℕ → Deal → List Series → List Series → List Outcome
+calls q points deal ls rs =
     on q points ls rs ∷ pileCall q (record { points = points }) deal ls rs 65535 8192 ∷ pileCall q (record { points = points }) (secondPile deal) ls rs 65535 8192 ∷ []
 
 abbrev sideOf : {X : Type 0} → Side → X → X → X
@@ -33,9 +34,9 @@ b row = series [] (press B ∷ []) row
 
 -- Press A goes to the second pile: its left series, at the places 1 and 2 of the whole call, stand there at 0 and 1.
 whole-duplicate :
-    three (plainly 0) 3 (firsts (true ∷ false ∷ false ∷ []) (false ∷ true ∷ []))
-    (b (r1 ∷ r1 ∷ r1 ∷ []) ∷ a (r1 ∷ r2 ∷ r3 ∷ []) ∷ a (r3 ∷ r2 ∷ r1 ∷ []) ∷ []) (a (r1 ∷ r1 ∷ r1 ∷ []) ∷ b (r1 ∷ r1 ∷ r1 ∷ []) ∷ [])
-    ≡ refused 7 2 1 ∷ gives 3 (b (r2 ∷ r2 ∷ r2 ∷ []) ∷ []) ∷ refused 7 1 0 ∷ []
+    calls (plainly 0) 3 (firsts (true ∷ false ∷ false ∷ []) (false ∷ true ∷ []))
+    (b (one ∷ one ∷ one ∷ []) ∷ a (one ∷ two ∷ three ∷ []) ∷ a (three ∷ two ∷ one ∷ []) ∷ []) (a (one ∷ one ∷ one ∷ []) ∷ b (one ∷ one ∷ one ∷ []) ∷ [])
+    ≡ refused 7 2 1 ∷ gives 3 (b (two ∷ two ∷ two ∷ []) ∷ []) ∷ refused 7 1 0 ∷ []
 unfolding computing
 whole-duplicate = refl
 
@@ -44,24 +45,24 @@ whole-places = refl
 
 -- the piles' answers alternate in the whole one
 merged-order :
-    three (plainly 17) 1 (firsts (true ∷ false ∷ true ∷ []) (true ∷ false ∷ [])) (a (r1 ∷ []) ∷ b (N ∷ []) ∷ a (N ∷ []) ∷ []) (a (r5 ∷ []) ∷ b (r2 ∷ []) ∷ [])
-    ≡ gives 1 (a (r1 ∷ []) ∷ b (r2 ∷ []) ∷ a (r5 ∷ []) ∷ []) ∷ gives 1 (a (r1 ∷ []) ∷ a (r5 ∷ []) ∷ []) ∷ gives 1 (b (r2 ∷ []) ∷ []) ∷ []
+    calls (plainly 17) 1 (firsts (true ∷ false ∷ true ∷ []) (true ∷ false ∷ [])) (a (one ∷ []) ∷ b (N ∷ []) ∷ a (N ∷ []) ∷ []) (a (five ∷ []) ∷ b (two ∷ []) ∷ [])
+    ≡ gives 1 (a (one ∷ []) ∷ b (two ∷ []) ∷ a (five ∷ []) ∷ []) ∷ gives 1 (a (one ∷ []) ∷ a (five ∷ []) ∷ []) ∷ gives 1 (b (two ∷ []) ∷ []) ∷ []
 unfolding computing
 merged-order = refl
 
 -- Conditions needed. `if`: the left series falls back in the whole call and not in its pile's, and the answers differ.
-falls-in-whole : three (plainly 12) 1 (firsts (true ∷ []) (false ∷ [])) (a (r1 ∷ []) ∷ []) (series [] [] (r2 ∷ []) ∷ []) ≡ gives 1 (a (r1 ∷ []) ∷ []) ∷ gives 1 [] ∷ gives 1 [] ∷ []
+falls-in-whole : calls (plainly 12) 1 (firsts (true ∷ []) (false ∷ [])) (a (one ∷ []) ∷ []) (series [] [] (two ∷ []) ∷ []) ≡ gives 1 (a (one ∷ []) ∷ []) ∷ gives 1 [] ∷ gives 1 [] ∷ []
 unfolding computing
 falls-in-whole = refl
 
 -- the other way: two right series in the whole call, one in the pile's
 falls-in-pile :
-    three (plainly 12) 1 (firsts (true ∷ []) (true ∷ false ∷ [])) (a (r1 ∷ []) ∷ []) (series [] [] (r2 ∷ []) ∷ b (r2 ∷ []) ∷ [])
-    ≡ gives 1 [] ∷ gives 1 (a (r1 ∷ []) ∷ []) ∷ gives 1 [] ∷ []
+    calls (plainly 12) 1 (firsts (true ∷ []) (true ∷ false ∷ [])) (a (one ∷ []) ∷ []) (series [] [] (two ∷ []) ∷ b (two ∷ []) ∷ [])
+    ≡ gives 1 [] ∷ gives 1 (a (one ∷ []) ∷ []) ∷ gives 1 [] ∷ []
 unfolding computing
 falls-in-pile = refl
 
 -- `default`: a pile with a right series and no left one returns it, the whole call does not
-no-left-in-pile : three (plainly 3) 1 (firsts (true ∷ []) (false ∷ [])) (a (r1 ∷ []) ∷ []) (b (r2 ∷ []) ∷ []) ≡ gives 1 (a (r1 ∷ []) ∷ []) ∷ gives 1 (a (r1 ∷ []) ∷ []) ∷ gives 1 (b (r2 ∷ []) ∷ []) ∷ []
+no-left-in-pile : calls (plainly 3) 1 (firsts (true ∷ []) (false ∷ [])) (a (one ∷ []) ∷ []) (b (two ∷ []) ∷ []) ≡ gives 1 (a (one ∷ []) ∷ []) ∷ gives 1 (a (one ∷ []) ∷ []) ∷ gives 1 (b (two ∷ []) ∷ []) ∷ []
 unfolding computing
 no-left-in-pile = refl
