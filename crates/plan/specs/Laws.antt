@@ -2,3 +2,4 @@ pub mod Settling
 pub mod Keyed
 pub mod Merging
 pub mod Pairs
+pub mod Sets
