@@ -59,9 +59,35 @@ impl Library for Program {
     }
 }
 
-/// The static library, through its C interface.
+/// The static library, through its C interface. It is lent the middle of two buffers that hold a pattern: what it may not
+/// change, behind an answer, under a refusal or beyond the lent part, must hold the pattern afterwards.
 #[cfg(feature = "library")]
-pub struct Linked;
+#[derive(Default)]
+pub struct Linked {
+    label_pattern: Vec<u8>,
+    reading_pattern: Vec<u64>,
+    labels: Vec<u8>,
+    readings: Vec<u64>,
+}
+
+#[cfg(feature = "library")]
+const BORDER: usize = 16;
+
+#[cfg(feature = "library")]
+impl Linked {
+    fn grow(&mut self, room: reference::Room) {
+        while self.labels.len() < room.labels + 2 * BORDER {
+            let byte = (self.labels.len() * 151 + 7) as u8;
+            self.label_pattern.push(byte);
+            self.labels.push(byte);
+        }
+        while self.readings.len() < room.readings + 2 * BORDER {
+            let word = (self.readings.len() as u64).wrapping_mul(0x9e37_79b9_7f4a_7c15) ^ 0x5bd1_e995;
+            self.reading_pattern.push(word);
+            self.readings.push(word);
+        }
+    }
+}
 
 #[cfg(feature = "library")]
 impl Library for Linked {
@@ -70,43 +96,48 @@ impl Library for Linked {
     }
 
     fn check(&mut self, call: &Call) -> Result<(), String> {
-        // A border on either side of each lent part shows writes beyond it.
-        const BORDER: usize = 16;
-        let labels_before: Vec<u8> = (0..call.room.labels + 2 * BORDER).map(|i| (i * 151 + 7) as u8).collect();
-        let readings_before: Vec<u64> = (0..call.room.readings as u64 + 2 * BORDER as u64).map(|i| i.wrapping_mul(0x9e37_79b9_7f4a_7c15) ^ 0x5bd1_e995).collect();
-        let (mut labels, mut readings) = (labels_before.clone(), readings_before.clone());
+        self.grow(call.room);
         let given = nosingcatnip::exec_binop(
             &call.query,
             nosingcatnip::Side { labels: &call.left_labels, readings: &call.left },
             nosingcatnip::Side { labels: &call.right_labels, readings: &call.right },
-            &mut labels[BORDER..BORDER + call.room.labels],
-            &mut readings[BORDER..BORDER + call.room.readings],
+            &mut self.labels[BORDER..BORDER + call.room.labels],
+            &mut self.readings[BORDER..BORDER + call.room.readings],
         );
-        let expected = reference::call(call);
-        let (mut labels_after, mut readings_after) = (labels_before, readings_before);
-        let expected = match expected {
-            Err(r) => Err((r.number, r.fields)),
-            Ok(a) => {
-                labels_after[BORDER..BORDER + a.labels.len()].copy_from_slice(&a.labels);
-                readings_after[BORDER..BORDER + a.readings.len()].copy_from_slice(&a.readings);
-                Ok((a.series, a.points, a.labels.len()))
-            }
-        };
         let given = given.map(|a| (a.series, a.points, a.label_bytes)).map_err(|r| (r.number, r.fields));
+        let (expected, labels, readings) = match reference::call(call) {
+            Err(r) => (Err((r.number, r.fields)), vec![], vec![]),
+            Ok(a) => (Ok((a.series, a.points, a.labels.len())), a.labels, a.readings),
+        };
+        let wrong_label = left_behind(&mut self.labels, &self.label_pattern, &labels);
+        let wrong_reading = left_behind(&mut self.readings, &self.reading_pattern, &readings);
         if given != expected {
             return Err(format!("the library gives {given:?}, the reference {expected:?}"));
         }
-        if labels != labels_after {
-            return Err(format!("label bytes differ: first at {:?} of the lent part", first_difference(&labels, &labels_after, BORDER)));
+        if let Some(at) = wrong_label {
+            return Err(format!("the label byte at {at} of the lent part differs"));
         }
-        if readings != readings_after {
-            return Err(format!("readings differ: first at {:?} of the lent part", first_difference(&readings, &readings_after, BORDER)));
+        match wrong_reading {
+            Some(at) => Err(format!("the reading at {at} of the lent part differs")),
+            None => Ok(()),
         }
-        Ok(())
     }
 }
 
+/// Where a lent buffer first differs from the answer and the pattern around it, counted from the start of the lent part; the
+/// pattern is put back.
 #[cfg(feature = "library")]
-fn first_difference<T: PartialEq>(given: &[T], expected: &[T], border: usize) -> Option<isize> {
-    given.iter().zip(expected).position(|(a, b)| a != b).map(|i| i as isize - border as isize)
+fn left_behind<T: Copy + PartialEq>(buffer: &mut [T], pattern: &[T], answer: &[T]) -> Option<isize> {
+    let end = BORDER + answer.len();
+    let as_expected = buffer[..BORDER] == pattern[..BORDER] && buffer[BORDER..end] == *answer && buffer[end..] == pattern[end..];
+    let wrong = if as_expected {
+        buffer[BORDER..end].copy_from_slice(&pattern[BORDER..end]);
+        None
+    } else {
+        let expected = pattern[..BORDER].iter().chain(answer).chain(&pattern[end..]);
+        let at = buffer.iter().zip(expected).position(|(b, e)| b != e);
+        buffer.copy_from_slice(pattern);
+        at
+    };
+    wrong.map(|at| at as isize - BORDER as isize)
 }

@@ -1,20 +1,11 @@
 //! Runs the reference against the Rust's `exec_binop`, and a library against the reference. README.md says how.
-mod cases;
-mod compare;
-mod damage;
-mod known;
-mod library;
-mod random;
-mod rust;
-mod sample;
-mod tally;
-
 use std::process::ExitCode;
 
-use library::{Library, Program};
-use random::Random;
+use oracle::library::{Library, Program};
+use oracle::random::Random;
+use oracle::tally::Tally;
+use oracle::{cases, damage, known, sample};
 use reference::Call;
-use tally::Tally;
 
 struct Options {
     seed: u64,
@@ -143,7 +134,7 @@ fn program(o: &Options, mut program: Program) -> bool {
 
 #[cfg(feature = "library")]
 fn linked(o: &Options) -> bool {
-    let mut library = library::Linked;
+    let mut library = oracle::library::Linked::default();
     println!("{} against the reference, seed {}, {} random cases an operator", library.name(), o.seed, o.cases);
     let mut tally = Tally::new(o.show);
     admitted(o, &mut |kind, c| tally.count_library(kind, &c, &mut library));
