@@ -65,8 +65,10 @@ pub fn plain(op: Operator) -> Query {
 pub enum Extent {
     /// p to 6, some dozens at times.
     Small,
-    /// p to 1,024 and dozens of series.
+    /// p to 1,024.
     Long,
+    /// Up to 512 series of few points, with keys that repeat some times.
+    Wide,
     /// p to 4, up to 4 series a side: for the stored sample.
     Tiny,
 }
@@ -79,6 +81,7 @@ pub fn random(r: &mut Random, op: Operator, extent: Extent, utf8: bool) -> Call 
         Extent::Small if r.one_in(12) => 7 + r.below(30),
         Extent::Small => r.below(7),
         Extent::Long => r.pick(&[64, 200, 1023, 1024]),
+        Extent::Wide => r.below(5),
     };
     let mut left = random_vector(r, p, extent, utf8);
     let mut right = random_vector(r, p, extent, utf8);
@@ -150,8 +153,10 @@ fn random_vector(r: &mut Random, p: usize, extent: Extent, utf8: bool) -> Vector
         Extent::Tiny => r.below(5),
         Extent::Small if r.one_in(10) => 8 + r.below(8),
         Extent::Small => r.below(6),
-        Extent::Long => r.pick(&[1, 3, 7]),
+        Extent::Long => r.pick(&[1, 1, 3, 7]),
+        Extent::Wide => r.pick(&[40, 150, 400, 511, 512]),
     };
+    let numbers = 1 + r.below(2 * n + 1);
     let base = random_labels(r, utf8);
     let odd = r.one_in(3);
     let mut series: Vec<Series> = (0..n)
@@ -160,6 +165,10 @@ fn random_vector(r: &mut Random, p: usize, extent: Extent, utf8: bool) -> Vector
             let mut labels = if r.one_in(2) { base.clone() } else { random_labels(r, utf8) };
             if r.one_in(3) {
                 labels.name = r.pick(&NAMES).to_vec();
+            }
+            if extent == Extent::Wide {
+                labels.tags.insert(0, Tag { key: b"!".to_vec(), value: r.below(numbers).to_string().into_bytes() });
+                labels.tags.sort();
             }
             let row = (0..p).map(|_| random_reading(r, odd)).collect();
             Series { labels, row }

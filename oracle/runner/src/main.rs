@@ -14,20 +14,27 @@ struct Options {
     vecop: Option<String>,
     sample: Option<String>,
     show: usize,
+    differences: bool,
 }
 
 const USAGE: &str = "oracle [--seed N] [--cases N] [--vecop PROGRAM] [--show N]\n\
     oracle --sample FOLDER\n\
+    oracle --differences\n\
     --seed     of the random cases (1)\n\
     --cases    random cases an operator (20000)\n\
     --vecop    compares this vecop with the reference, and leaves the Rust aside\n\
     --show     how many differences are printed in full (5)\n\
-    --sample   writes the fixed sample of the Rust's answers into this folder";
+    --sample   writes the fixed sample of the Rust's answers into this folder\n\
+    --differences   prints the listed differences with their smallest inputs";
 
 fn options() -> Result<Options, String> {
-    let mut o = Options { seed: 1, cases: 20_000, vecop: None, sample: None, show: 5 };
+    let mut o = Options { seed: 1, cases: 20_000, vecop: None, sample: None, show: 5, differences: false };
     let mut words = std::env::args().skip(1);
     while let Some(word) = words.next() {
+        if word == "--differences" {
+            o.differences = true;
+            continue;
+        }
         let value = words.next().ok_or_else(|| USAGE.to_string())?;
         let number = || value.parse::<u64>().map_err(|_| format!("{word} {value}: not a number"));
         match word.as_str() {
@@ -54,6 +61,10 @@ fn main() -> ExitCode {
     std::panic::set_hook(Box::new(|_| {}));
     if let Some(folder) = &o.sample {
         return sample::write(folder);
+    }
+    if o.differences {
+        known::print();
+        return ExitCode::SUCCESS;
     }
     let mut good = true;
     match &o.vecop {
@@ -83,6 +94,9 @@ fn admitted(o: &Options, visit: &mut dyn FnMut(&'static str, Call)) {
         }
         for _ in 0..o.cases.div_ceil(50) {
             visit("random, long rows", cases::random(&mut r, op, cases::Extent::Long, true));
+        }
+        for _ in 0..o.cases.div_ceil(200) {
+            visit("random, many series", cases::random(&mut r, op, cases::Extent::Wide, true));
         }
     }
     cases::all_readings(&mut |c| visit("all pairs of readings", c));
