@@ -77,14 +77,17 @@ pub enum Extent {
 pub fn random(r: &mut Random, op: Operator, extent: Extent, utf8: bool) -> Call {
     let query = random_query(r, op, extent);
     let p = match extent {
-        Extent::Tiny => r.below(5),
+        // Merges need three points.
+        Extent::Tiny => r.pick(&[0, 1, 2, 3, 3, 3, 4, 4, 4]),
         Extent::Small if r.one_in(12) => 7 + r.below(30),
-        Extent::Small => r.below(7),
+        Extent::Small => r.pick(&[0, 1, 2, 3, 3, 3, 4, 4, 4, 5, 5, 6, 6]),
         Extent::Long => r.pick(&[64, 200, 1023, 1024]),
         Extent::Wide => r.below(5),
     };
-    let mut left = random_vector(r, p, extent, utf8);
-    let mut right = random_vector(r, p, extent, utf8);
+    // The sides draw on the same few labels, so that keys meet.
+    let pool: Vec<Labels> = (0..1 + r.below(3)).map(|_| random_labels(r, utf8)).collect();
+    let mut left = random_vector(r, p, &pool, extent, utf8);
+    let mut right = random_vector(r, p, &pool, extent, utf8);
     // The fallback, and what is nearly it: one series without tags, with or without a name.
     if r.one_in(8) {
         right.series.truncate(1);
@@ -148,23 +151,30 @@ fn random_labels(r: &mut Random, utf8: bool) -> Labels {
     Labels { name, tags }
 }
 
-fn random_vector(r: &mut Random, p: usize, extent: Extent, utf8: bool) -> Vector {
+fn random_vector(r: &mut Random, p: usize, pool: &[Labels], extent: Extent, utf8: bool) -> Vector {
     let n = match extent {
-        Extent::Tiny => r.below(5),
+        _ if r.one_in(16) => 0,
+        Extent::Tiny => 1 + r.below(4),
         Extent::Small if r.one_in(10) => 8 + r.below(8),
-        Extent::Small => r.below(6),
+        Extent::Small => 1 + r.below(6),
         Extent::Long => r.pick(&[1, 1, 3, 7]),
         Extent::Wide => r.pick(&[40, 150, 400, 511, 512]),
     };
     let numbers = 1 + r.below(2 * n + 1);
-    let base = random_labels(r, utf8);
     let odd = r.one_in(3);
     let mut series: Vec<Series> = (0..n)
         .map(|_| {
-            // Half of them share labels, so that keys repeat and merge.
-            let mut labels = if r.one_in(2) { base.clone() } else { random_labels(r, utf8) };
+            let mut labels = if r.one_in(6) { random_labels(r, utf8) } else { r.pick(pool) };
             if r.one_in(3) {
                 labels.name = r.pick(&NAMES).to_vec();
+            }
+            if r.one_in(4) && !labels.tags.is_empty() {
+                let at = r.below(labels.tags.len());
+                if r.one_in(2) {
+                    labels.tags.remove(at);
+                } else {
+                    labels.tags[at].value = r.pick(&VALUES).to_vec();
+                }
             }
             if extent == Extent::Wide {
                 labels.tags.insert(0, Tag { key: b"!".to_vec(), value: r.below(numbers).to_string().into_bytes() });
