@@ -46,7 +46,10 @@ fn side(r: &mut Random, n: usize, p: usize, each: usize, tags: usize, gaps: Gaps
             (Gaps::None, _) => (at >= p / 2) == (turn % 2 == 1),
         };
         let row = (0..p).map(|at| if present(at) { (1.0 + r.below(1 << 20) as f64).to_bits() } else { MISSING }).collect();
-        let tag = |t: usize| Tag { key: format!("tag{t}").into_bytes(), value: format!("{:03}", if t == 0 { key } else { key / 3 + t }).into_bytes() };
+        let tag = |t: usize| Tag {
+            key: format!("tag{t}").into_bytes(),
+            value: format!("{:03}", if t == 0 { key } else { key / 3 + t }).into_bytes(),
+        };
         let labels = Labels { name: format!("count{turn}").into_bytes(), tags: (0..tags).map(tag).collect() };
         series.push(Series { labels, row });
     }

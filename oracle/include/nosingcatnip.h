@@ -1,7 +1,7 @@
 /* Labelled vector operators over series with gaps. Document 01 of the project says what a query, a label part and a refusal are.
  *
- * Link with libnosingcatnip.a. The functions keep nothing between calls, allocate nothing and call nothing of C's library
- * but fmod; a call uses some tens of kilobytes of stack. Calls on disjoint output parts may run at the same time. */
+ * Link with libnosingcatnip.a and -lm. The function keeps nothing between calls, so calls on disjoint output parts may run at
+ * the same time. */
 #ifndef NOSINGCATNIP_H
 #define NOSINGCATNIP_H
 

@@ -11,5 +11,6 @@ fn source() -> PathBuf {
 fn found(source: &Path, file: &str) -> PathBuf {
     let path = source.join(file);
     println!("cargo:rerun-if-changed={}", path.display());
-    path.canonicalize().unwrap_or_else(|e| panic!("{}: {e}; METRICSQL_SRC names the folder of metricsql's sources", path.display()))
+    path.canonicalize()
+        .unwrap_or_else(|e| panic!("{}: {e}; METRICSQL_SRC names the folder of metricsql's sources", path.display()))
 }

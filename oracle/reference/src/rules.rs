@@ -15,7 +15,11 @@ pub struct Event {
 pub enum What {
     Series(Series),
     /// "fields are the input places of the series kept and the one that failed to merge"
-    Duplicate { right: bool, kept: usize, failed: usize },
+    Duplicate {
+        right: bool,
+        kept: usize,
+        failed: usize,
+    },
 }
 
 /// A series with its input place and its key under the query's matching.

@@ -17,7 +17,15 @@ fn vector(series: Vec<Series>) -> Vector {
 }
 
 fn query(op: Operator) -> Query {
-    Query { op, matching: Matching::None, join: Join::OneToOne, keep_names: false, bool_flag: false, matching_list: vec![], join_list: vec![] }
+    Query {
+        op,
+        matching: Matching::None,
+        join: Join::OneToOne,
+        keep_names: false,
+        bool_flag: false,
+        matching_list: vec![],
+        join_list: vec![],
+    }
 }
 
 fn called(q: &Query, left: Vec<Series>, right: Vec<Series>) -> Outcome {
@@ -91,7 +99,8 @@ fn fallback() {
 fn two_forms_share_a_waste_rate() {
     let left = vec![series("", &[("form", "1"), ("press", "A")], &[1.]), series("", &[("form", "2"), ("press", "A")], &[2.])];
     let right = vec![series("", &[("press", "A")], &[10.])];
-    let q = Query { matching: Matching::On, matching_list: vec![b"press".to_vec()], join: Join::GroupLeft, ..query(Operator::Mul) };
+    let q =
+        Query { matching: Matching::On, matching_list: vec![b"press".to_vec()], join: Join::GroupLeft, ..query(Operator::Mul) };
     assert_eq!(rows(called(&q, left, right)), [row(&[10.]), row(&[20.])]);
 }
 
@@ -101,7 +110,14 @@ fn printed_quotient() {
     let right = vec![series("waste", &[("press", "A")], &[2., 1., 3.])];
     let (left_labels, left) = vector(left).parts();
     let (right_labels, right) = vector(right).parts();
-    let c = Call { query: query(Operator::Div).bytes(), left_labels, left, right_labels, right, room: Room { labels: 0, readings: 0 } };
+    let c = Call {
+        query: query(Operator::Div).bytes(),
+        left_labels,
+        left,
+        right_labels,
+        right,
+        room: Room { labels: 0, readings: 0 },
+    };
     let text = "answer 1 3\n{press=\"A\"} 4014000000000000 7ff8000000000000 4000000000000000\n";
     assert_eq!(String::from_utf8(vecop(&frame(&c))).expect("text"), text);
 }

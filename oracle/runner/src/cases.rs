@@ -57,7 +57,15 @@ pub fn labels(name: &[u8], tags: &[(&[u8], &[u8])]) -> Labels {
 }
 
 pub fn plain(op: Operator) -> Query {
-    Query { op, matching: Matching::None, join: Join::OneToOne, keep_names: false, bool_flag: false, matching_list: vec![], join_list: vec![] }
+    Query {
+        op,
+        matching: Matching::None,
+        join: Join::OneToOne,
+        keep_names: false,
+        bool_flag: false,
+        matching_list: vec![],
+        join_list: vec![],
+    }
 }
 
 /// How long rows and lists of series a random case may have.

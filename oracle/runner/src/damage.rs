@@ -1,6 +1,8 @@
 //! Cases at and beyond the edges: damaged inputs of every kind, limits, and lent parts of every length. The Rust takes no bytes,
 //! so these are for the reference and the library alone.
-use reference::{call as reference_call, Call, Join, Labels, Matching, Operator, Query, Room, Series, Tag, Vector, MISSING, NAME};
+use reference::{
+    call as reference_call, Call, Join, Labels, Matching, Operator, Query, Room, Series, Tag, Vector, MISSING, NAME,
+};
 
 use crate::cases::{call, plain, random, Extent, CARRIED, ROOM};
 use crate::random::Random;
@@ -35,7 +37,10 @@ pub fn cuts(r: &mut Random, rounds: usize, visit: &mut dyn FnMut(Call)) {
         }
         visit(Call { query: [c.query.as_slice(), &[0]].concat(), ..c.clone() });
         visit(Call { left_labels: [c.left_labels.as_slice(), &[0]].concat(), ..c.clone() });
-        visit(Call { right_labels: restated(&[c.right_labels.as_slice(), &[0]].concat(), c.right_labels.len() + 1), ..c.clone() });
+        visit(Call {
+            right_labels: restated(&[c.right_labels.as_slice(), &[0]].concat(), c.right_labels.len() + 1),
+            ..c.clone()
+        });
         visit(Call { left: [c.left.as_slice(), &[0]].concat(), ..c.clone() });
         visit(Call { right: [c.right.as_slice(), &[0]].concat(), ..c });
     }

@@ -32,8 +32,14 @@ pub fn examples(known: Known) -> Vec<(&'static str, Call)> {
         Known::UnequalPoints => vec![
             ("two empty sides", given(&query(Operator::Add), side(0, vec![]), side(1, vec![]))),
             ("+ on rows of 1 and 2", given(&query(Operator::Add), side(1, vec![bare(&[1.0])]), side(2, vec![bare(&[1.0, 2.0])]))),
-            ("`and` on rows of 2 and 1", given(&query(Operator::And), side(2, vec![bare(&[1.0, 2.0])]), side(1, vec![bare(&[1.0])]))),
-            ("`and` on rows of 1 and 2", given(&query(Operator::And), side(1, vec![bare(&[1.0])]), side(2, vec![bare(&[1.0, 2.0])]))),
+            (
+                "`and` on rows of 2 and 1",
+                given(&query(Operator::And), side(2, vec![bare(&[1.0, 2.0])]), side(1, vec![bare(&[1.0])])),
+            ),
+            (
+                "`and` on rows of 1 and 2",
+                given(&query(Operator::And), side(1, vec![bare(&[1.0])]), side(2, vec![bare(&[1.0, 2.0])])),
+            ),
             (
                 "`or` on rows of 1 and 2, keys unlike",
                 given(&query(Operator::Or), side(1, vec![bare(&[1.0])]), side(2, vec![tagged(b"a", b"", &[1.0, 2.0])])),

@@ -34,7 +34,9 @@ pub fn run(argument: Argument) -> Given {
     match catch_unwind(AssertUnwindSafe(|| exec_binop(op, &modifier, left, right))) {
         Err(_) => Given::Panic,
         Ok(Ok(series)) => Given::Answer(series.iter().map(back).collect()),
-        Ok(Err(RuntimeError::General(message))) if message.starts_with("duplicate time series on the ") => Given::Duplicate(message),
+        Ok(Err(RuntimeError::General(message))) if message.starts_with("duplicate time series on the ") => {
+            Given::Duplicate(message)
+        }
         Ok(Err(error)) => Given::OtherError(format!("{error:?}")),
     }
 }
@@ -95,9 +97,7 @@ fn timeseries(vector: &Vector) -> Option<Vec<Timeseries>> {
 
 fn back(ts: &Timeseries) -> Series {
     let tag = |t: &RustTag| Tag { key: t.key.clone().into_bytes(), value: t.value.clone().into_bytes() };
-    let labels = Labels {
-        name: ts.metric_name.metric_group.clone().into_bytes(),
-        tags: ts.metric_name.tags.iter().map(tag).collect(),
-    };
+    let labels =
+        Labels { name: ts.metric_name.metric_group.clone().into_bytes(), tags: ts.metric_name.tags.iter().map(tag).collect() };
     Series { labels, row: ts.values.iter().map(|v| v.to_bits()).collect() }
 }

@@ -114,7 +114,8 @@ fn binary(cases: &[(Call, Outcome)]) -> Vec<u8> {
         put_words(&mut out, &c.left);
         put_bytes(&mut out, &c.right_labels);
         put_words(&mut out, &c.right);
-        let [number, first, second] = outcome.as_ref().map_or_else(|r| [r.number, r.fields[0], r.fields[1]], |a| [0, a.series as u64, a.points as u64]);
+        let [number, first, second] =
+            outcome.as_ref().map_or_else(|r| [r.number, r.fields[0], r.fields[1]], |a| [0, a.series as u64, a.points as u64]);
         for n in [number, first, second] {
             out.extend_from_slice(&(n as u16).to_le_bytes());
         }

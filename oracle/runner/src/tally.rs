@@ -91,7 +91,11 @@ impl Tally {
 
     /// Prints the counts; true where nothing unlisted differs.
     pub fn report(&self) -> bool {
-        for (title, counts) in [("kind", self.kinds.iter().map(|(k, n)| (k.to_string(), *n)).collect::<Vec<_>>()), ("outcome", pairs(&self.outcomes)), ("taken", pairs(&self.queries))] {
+        for (title, counts) in [
+            ("kind", self.kinds.iter().map(|(k, n)| (k.to_string(), *n)).collect::<Vec<_>>()),
+            ("outcome", pairs(&self.outcomes)),
+            ("taken", pairs(&self.queries)),
+        ] {
             println!("  by {title}");
             for (name, n) in counts {
                 println!("    {n:>9}  {name}");
