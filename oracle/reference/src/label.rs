@@ -70,27 +70,6 @@ fn take_short(rest: &mut &[u8]) -> Option<Vec<u8>> {
     Some(bytes.to_vec())
 }
 
-#[derive(Clone, Debug, PartialEq, Eq)]
-pub enum Lookup {
-    Present(Vec<u8>),
-    Absent,
-    /// Number 3 or 4.
-    Bad(u64),
-}
-
-/// "Tag lookup reads the record at the start of the label part lent to it; bytes behind that record are not looked at. One
-/// function answers 3 or 4 for a bad record, else present or absent; a second hands back the value's part, empty unless
-/// present." "for `__name__` it is the name".
-pub fn lookup(bytes: &[u8], key: &[u8]) -> Lookup {
-    match take_record(bytes) {
-        Err(fault) => Lookup::Bad(fault.number()),
-        Ok((labels, _)) => match labels.value(key) {
-            Some(value) => Lookup::Present(value.to_vec()),
-            None => Lookup::Absent,
-        },
-    }
-}
-
 fn listed(list: &[Vec<u8>], key: &[u8]) -> bool {
     list.iter().any(|l| l == key)
 }

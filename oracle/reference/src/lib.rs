@@ -8,7 +8,7 @@ mod rules;
 mod vecop;
 mod vector;
 
-pub use label::{lookup, Labels, Lookup, Tag, NAME};
+pub use label::{Labels, Tag, NAME};
 pub use query::{Join, Matching, Operator, Query};
 pub use reading::{combine, is_missing, merge, Merged, MISSING};
 pub use rules::{run, Event, What};

@@ -11,7 +11,8 @@ pub const MATCHINGS: [Matching; 3] = [Matching::None, Matching::On, Matching::Ig
 pub const JOINS: [Join; 4] = [Join::OneToOne, Join::GroupLeft, Join::GroupRight, Join::ManyToMany];
 
 const NAMES: [&[u8]; 3] = [b"", b"m", b"n"];
-const KEYS: [&[u8]; 5] = [b"a", b"b", b"c", b"xb", b"*"];
+/// Keys, and in how many of twelve series each stands.
+const KEYS: [(&[u8], usize); 5] = [(b"a", 8), (b"b", 8), (b"c", 8), (b"xb", 3), (b"*", 1)];
 const VALUES: [&[u8]; 5] = [b"", b"x", b"y", b"xb", "\u{e9}".as_bytes()];
 const LISTED: [&[u8]; 7] = [b"a", b"b", b"c", b"xb", b"z", b"*", NAME];
 
@@ -143,17 +144,17 @@ fn random_list(r: &mut Random, extent: Extent) -> Vec<Vec<u8>> {
 }
 
 fn random_labels(r: &mut Random, utf8: bool) -> Labels {
-    let name = if !utf8 && r.one_in(4) { vec![r.next() as u8, 0xff] } else { r.pick(&NAMES).to_vec() };
+    let name = if !utf8 && r.one_in(4) { vec![r.word() as u8, 0xff] } else { r.pick(&NAMES).to_vec() };
     let mut tags: Vec<Tag> = Vec::new();
-    for key in KEYS {
-        if !r.one_in(3) && !(key == b"*" && !r.one_in(8)) && !(key == b"xb" && !r.one_in(3)) {
+    for (key, often) in KEYS {
+        if r.below(12) < often {
             // Few values, so that keys meet.
             let value = if r.one_in(3) { r.pick(&VALUES).to_vec() } else { b"x".to_vec() };
             tags.push(Tag { key: key.to_vec(), value });
         }
     }
     if !utf8 && r.one_in(2) {
-        tags.push(Tag { key: vec![0x80 + r.below(0x80) as u8], value: vec![r.next() as u8; r.below(4)] });
+        tags.push(Tag { key: vec![0x80 + r.below(0x80) as u8], value: vec![r.word() as u8; r.below(4)] });
     }
     tags.sort();
     Labels { name, tags }
@@ -201,7 +202,7 @@ fn random_reading(r: &mut Random, odd: bool) -> u64 {
         return r.pick(&READINGS);
     }
     if odd && r.one_in(4) {
-        return r.next();
+        return r.word();
     }
     (r.below(9) as f64 - 2.0).to_bits()
 }

@@ -69,7 +69,7 @@ pub fn changed_bytes(r: &mut Random, visit: &mut dyn FnMut(Call)) {
         }
         let at = if r.one_in(2) { r.below(part.len().min(8)) } else { r.below(part.len()) };
         part[at] = match r.below(4) {
-            0 => r.next() as u8,
+            0 => r.word() as u8,
             1 => part[at].wrapping_add(1),
             2 => part[at].wrapping_sub(1),
             _ => r.pick(&[0, 1, 2, 3, 4, 8, 18, 19, 32, 33, 255]),

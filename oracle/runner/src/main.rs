@@ -169,7 +169,7 @@ fn framing(o: &Options, visit: &mut dyn FnMut(&'static str, &[u8])) {
         visit("framing too long", &[input.as_slice(), &[0]].concat());
         let mut changed = input.clone();
         let at = r.below(4);
-        changed[at] = r.next() as u8;
+        changed[at] = r.word() as u8;
         visit("a length changed", &changed);
     }
     // A query of such a length that the input has 65,536 bytes, or one more.
