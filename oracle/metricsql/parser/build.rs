@@ -8,7 +8,7 @@
 //!                            the line that begins `/// Expression Trait.`: the modifier types. The file's own `use` lines
 //!                            lie before the stretch; the module around it (src/lib.rs, `ast::expr`) has the few it needs.
 //! No line of a file is altered. What else these files name (`parser::ParseError`, `tokens::Token`, `LabelFilterOp`,
-//! two helpers of `Display` and `PartialEq`) is supplied in src/lib.rs.
+//! two functions used by `Display` and `PartialEq`) is supplied in src/lib.rs.
 use std::path::{Path, PathBuf};
 use std::{env, fs};
 

@@ -36,7 +36,8 @@ pub fn write(folder: &str) -> ExitCode {
     }
 }
 
-fn chosen() -> Vec<(Call, Outcome)> {
+/// The sample's cases.
+pub fn chosen() -> Vec<(Call, Outcome)> {
     let mut all = Vec::new();
     for (k, op) in CARRIED.into_iter().enumerate() {
         let mut r = Random::new(SEED + k as u64);
@@ -79,7 +80,7 @@ fn words(readings: &[u64]) -> String {
     })
 }
 
-fn text(cases: &[(Call, Outcome)]) -> String {
+pub fn text(cases: &[(Call, Outcome)]) -> String {
     let mut out = String::new();
     for (k, (c, outcome)) in cases.iter().enumerate() {
         let _ = writeln!(out, "case {k}");
@@ -97,7 +98,7 @@ fn text(cases: &[(Call, Outcome)]) -> String {
     out
 }
 
-fn binary(cases: &[(Call, Outcome)]) -> Vec<u8> {
+pub fn binary(cases: &[(Call, Outcome)]) -> Vec<u8> {
     let mut out = Vec::new();
     let put_bytes = |out: &mut Vec<u8>, bytes: &[u8]| {
         out.extend_from_slice(&(bytes.len() as u16).to_le_bytes());
