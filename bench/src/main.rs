@@ -128,18 +128,21 @@ fn workloads() -> Vec<Workload> {
     all
 }
 
-fn median(times: &mut [f64]) -> f64 {
-    times.sort_by(f64::total_cmp);
-    times[times.len() / 2]
-}
-
-/// Microseconds.
+/// Of one program's turns, in microseconds: on a busy machine the fastest says more.
 struct Times {
-    rust: f64,
-    library: Option<f64>,
+    median: f64,
+    fastest: f64,
 }
 
-fn measure(call: &Call, turns: usize) -> Times {
+impl Times {
+    fn of(mut turns: Vec<f64>) -> Times {
+        turns.sort_by(f64::total_cmp);
+        Times { median: turns[turns.len() / 2], fastest: turns[0] }
+    }
+}
+
+/// The Rust's times, and the library's where it is linked.
+fn measure(call: &Call, turns: usize) -> (Times, Option<Times>) {
     let (query, left, right) = reference::taken(call).expect("a good call");
     let mut rust = Vec::new();
     #[cfg(feature = "library")]
@@ -163,13 +166,10 @@ fn measure(call: &Call, turns: usize) -> Times {
             std::hint::black_box((&answer, &out));
         }
     }
-    Times {
-        rust: median(&mut rust),
-        #[cfg(feature = "library")]
-        library: Some(median(&mut library)),
-        #[cfg(not(feature = "library"))]
-        library: None,
-    }
+    #[cfg(feature = "library")]
+    return (Times::of(rust), Some(Times::of(library)));
+    #[cfg(not(feature = "library"))]
+    (Times::of(rust), None)
 }
 
 /// What is measured must be right: the Rust against the reference, and the library against it too.
@@ -190,14 +190,17 @@ fn checked(w: &Workload) -> &'static str {
 
 fn main() {
     let turns = std::env::args().nth(1).map_or(101, |n| n.parse().expect("a number of turns"));
-    println!("Medians of {turns} turns, in microseconds");
-    println!("{:>10} {:>10} {:>7}  workload", "Rust", "library", "ratio");
+    println!("{turns} turns, in microseconds: medians and their ratio, the fastest turns and their ratio");
+    println!("{:>9} {:>9} {:>6}  {:>9} {:>9} {:>6}  workload", "Rust", "library", "ratio", "Rust", "library", "ratio");
     for w in workloads() {
         let note = checked(&w);
-        let t = measure(&w.call, turns);
-        match t.library {
-            Some(library) => println!("{:>10.1} {:>10.1} {:>7.3}  {}{note}", t.rust, library, library / t.rust, w.name),
-            None => println!("{:>10.1} {:>10} {:>7}  {}{note}", t.rust, "-", "-", w.name),
-        }
+        let (rust, library) = measure(&w.call, turns);
+        let column = |rust: f64, library: Option<f64>| match library {
+            Some(library) => format!("{rust:>9.1} {library:>9.1} {:>6.3}", library / rust),
+            None => format!("{rust:>9.1} {:>9} {:>6}", "-", "-"),
+        };
+        let medians = column(rust.median, library.as_ref().map(|t| t.median));
+        let fastest = column(rust.fastest, library.as_ref().map(|t| t.fastest));
+        println!("{medians}  {fastest}  {}{note}", w.name);
     }
 }

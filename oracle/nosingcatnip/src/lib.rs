@@ -47,6 +47,22 @@ extern "C" {
 
 /// Runs a query over two vectors into the two lent output parts. A refusal leaves both as they were; an answer changes only
 /// its own length at the start of each.
+///
+/// `/` without modifier, of fed{press="A"} [10, missing, 6] and waste{press="A"} [2, 1, 3]:
+///
+/// ```no_run
+/// use nosingcatnip::{exec_binop, Answer, Side};
+///
+/// let bits = |row: [f64; 3]| row.map(f64::to_bits);
+/// // series, points, length of the label array; name; one tag
+/// let fed = Side { labels: b"\x01\0\x03\0\x0d\0\x03fed\x01\x05press\x01A", readings: &bits([10.0, f64::NAN, 6.0]) };
+/// let waste = Side { labels: b"\x01\0\x03\0\x0f\0\x05waste\x01\x05press\x01A", readings: &bits([2.0, 1.0, 3.0]) };
+/// let (mut labels, mut readings) = ([0; 64], [0; 8]);
+/// let answer = exec_binop(&[4, 0, 0, 0, 0, 0], fed, waste, &mut labels, &mut readings);
+/// assert_eq!(answer, Ok(Answer { series: 1, points: 3, label_bytes: 10 }));
+/// assert_eq!(&labels[..10], b"\0\x01\x05press\x01A");
+/// assert_eq!(readings[..3], [5f64.to_bits(), 0x7ff8_0000_0000_0000, 2f64.to_bits()]);
+/// ```
 pub fn exec_binop(query: &[u8], left: Side, right: Side, out_labels: &mut [u8], out: &mut [u64]) -> Result<Answer, Refusal> {
     let mut result = [0u64; 6];
     // SAFETY: each pointer and length are a slice's, never null and aligned; the borrows keep the output parts apart from the
