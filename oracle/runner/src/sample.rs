@@ -1,6 +1,6 @@
 //! The fixed sample of the Rust's answers, for test programs that have no Rust at hand. Each case is one where the Rust is the
-//! measure and agrees with the reference; what is written is the Rust's answer in 01's order and with 01's NaN, or its
-//! duplicate by number and places. oracle/README.md has the format of both files.
+//! measure and gives what the reference gives; what is written is the reference's outcome, since order, the bits of a made NaN
+//! and the places of a duplicate are 01's alone. oracle/README.md has the format of both files.
 use std::collections::BTreeMap;
 use std::fmt::Write;
 use std::path::Path;
