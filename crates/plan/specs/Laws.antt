@@ -3,3 +3,4 @@ pub mod Keyed
 pub mod Merging
 pub mod Pairs
 pub mod Sets
+pub mod Joins
