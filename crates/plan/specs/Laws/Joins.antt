@@ -1,6 +1,6 @@
 -- Joins by key numbers are what the rule says. Assumes nothing.
 use Prim.Native.Nat.{ℕ, zero, suc, _+_, _-_, _*_, _/_, _%_, _<_, _≤_}
-use mathlib.Core.Path.{_≡_, refl, sym, ap, _∙_}
+use mathlib.Core.Path.{_≡_, refl, sym, ap, _∙_, subst}
 use mathlib.Core.Bool.{Bool, true, false, not, cond, _&&_}
 use mathlib.Core.Option.{Option, none, some}
 use mathlib.Core.List.{List, [], _∷_, _++_, map}
@@ -192,3 +192,158 @@ module _ (q : Query) (m : Labels) (k : ℕ) (side : Side) (c : Labels) where
       go true ht true hu (suc n) h w ih = absurd (let z : i ≡ i + suc n = sym (rw (ht, hu)) ∙ h in omega (arith, z))
       go true ht false hu n h w ih = later n (rw (ht, sym (swapped (b .labels)) ∙ hu)) (sym (rw (ht, hu)) ∙ h) w ih
       go false ht u hu n h w ih = later n (rw ht) (sym (rw ht) ∙ h) w ih
+
+-- one many-side series
+
+one-of : (r : Place) (side : Side) (o : ℕ) (l : Labels) (work : Series → Series) (u : RowMerge)
+    → firstClash (mark r (worked work (mergedAs (record { side = side; number = o }) l side u))) ≡ clash side o u
+one-of r side o l work (row d) = refl
+one-of r side o l work (failedAt j) = refl
+
+good-of : (r : Place) (side : Side) (o : ℕ) (l : Labels) (work : Series → Series) (u : RowMerge) → clash side o u ≡ none
+    → goodSeries (mark r (worked work (mergedAs (record { side = side; number = o }) l side u))) ≡ work (record { labels = l; row = rowOf u }) ∷ []
+good-of r side o l work (row d) h = refl
+good-of r side o l work (failedAt j) h = absurd (let z : _≡_ {A = ℕ} 0 1 = cc in omega arith)
+
+same-side : (s : Side) (t : Bool) → alongside s s t ≡ t
+same-side left t = refl
+same-side right t = refl
+
+eqb-sym : (a b : ℕ) → eqb a b ≡ eqb b a
+eqb-sym a b = cases (eqb b a) (λ e. eq-eqb a b (sym (eqb-true b a e)) ∙ sym e) (λ e. ne-eqb a b (λ h. eqb-false b a e (sym h)) ∙ sym e)
+
+zero-plus : (n : ℕ) → 0 + n ≡ n
+zero-plus n = omega arith
+
+labels-length : (bs : List Series) → length (labelsOfSide bs) ≡ length bs
+labels-length [] = refl
+labels-length (b ∷ bs) = ap suc (labels-length bs)
+
+getD-labelled : (bs : List Series) (j : ℕ) → getD (labelsOfSide bs) j noLabels ≡ getD bs j noSeries .labels
+getD-labelled [] j = refl
+getD-labelled (b ∷ bs) zero = refl
+getD-labelled (b ∷ bs) (suc j) = getD-labelled bs j
+
+module _ (q : Query) (many : Side) (p : ℕ) (os : List Series) (ok : List ℕ) (same : length ok ≡ length os) (few : length ok ≤ 512) (rowsOne : RowsAt p (readingsOf os) 0 os) (m : Series) (k : ℕ) where
+  abbrev side : Side
+  side = other many
+
+  abbrev ml : Labels
+  ml = m .labels
+
+  abbrev ol : List Labels
+  ol = labelsOfSide os
+
+  abbrev leads : List ℕ
+  leads = leadsOf q ml k ok ol
+
+  abbrev allowed : ℕ
+  allowed = allowedOverlaps q
+
+  abbrev editAs : Placed → Placed
+  editAs x = record { place = x .place; series = joinedPair q m (x .series) }
+
+  abbrev cs : List Placed
+  cs = pairs (joinedPair q) m (keyed side k 0 ok os)
+
+  -- a leader is found no later than the series itself
+  lead-soon : (i : ℕ) (xs : List ℕ) (bs : List Series) → length xs ≡ length bs → (n : ℕ) → n < length bs → getD xs n 0 ≡ k → leadOf q ml k (getD bs n noSeries .labels) i xs (labelsOfSide bs) ≤ i + n
+  unfolding leadOf
+  lead-soon i [] [] e n w h = absurd (omega (arith, w))
+  lead-soon i [] (b ∷ bs) e n w h = absurd (omega (arith, e))
+  lead-soon i (x ∷ xs) [] e n w h = absurd (omega (arith, e))
+  lead-soon i (x ∷ xs) (b ∷ bs) e zero w h = rw (eq-eqb x k h, alike-refl q ml (b .labels)) (omega arith)
+  lead-soon i (x ∷ xs) (b ∷ bs) e (suc n) w h =
+      cases (eqb x k && sameEditedBy q ml (b .labels) (getD bs n noSeries .labels))
+      (λ f. rw f (omega arith))
+      (λ f. rw f (let z = lead-soon (suc i) xs bs (omega (arith, e)) n (omega (arith, w)) h in omega (arith, z)))
+
+  leads-led : (c : Labels) (o : ℕ) → leadOf q ml k c 0 ok ol ≡ o → o < length os → (xs : List ℕ) (bs : List Series) → length xs ≡ length bs
+      → LedBy (λ b. sameEditedBy q ml c (b .labels)) k o xs bs (leadsAmong q ml k ok ol xs (labelsOfSide bs))
+  unfolding leadsAmong
+  leads-led c o h w [] [] e = tt
+  leads-led c o h w [] (b ∷ bs) e = absurd (omega (arith, e))
+  leads-led c o h w (x ∷ xs) [] e = absurd (omega (arith, e))
+  leads-led c o h w (x ∷ xs) (b ∷ bs) e = (
+    cases (eqb x k)
+        (λ f. rw f (lead-told q ml k c (b .labels) ok ol (same ∙ sym (labels-length os)) o h (omega (arith, labels-length os))))
+        (λ f. rw f (sym (ne-eqb dropped o (λ g. omega (arith, g, same))))),
+    leads-led c o h w xs bs (omega (arith, e)),
+  )
+
+  leads-length : (xs : List ℕ) (bs : List Series) → length xs ≡ length bs → length (leadsAmong q ml k ok ol xs (labelsOfSide bs)) ≡ length bs
+  unfolding leadsAmong
+  leads-length [] [] e = refl
+  leads-length [] (b ∷ bs) e = absurd (omega (arith, e))
+  leads-length (x ∷ xs) [] e = absurd (omega (arith, e))
+  leads-length (x ∷ xs) (b ∷ bs) e = ap suc (leads-length xs bs (omega (arith, e)))
+
+  leads-level : (n : ℕ) (xs : List ℕ) (bs : List Series) → length xs ≡ length bs → length (drop n (leadsAmong q ml k ok ol xs (labelsOfSide bs))) ≡ length (drop n bs)
+  unfolding leadsAmong
+  leads-level zero xs bs e = leads-length xs bs e
+  leads-level (suc n) [] [] e = refl
+  leads-level (suc n) [] (d ∷ bs) e = absurd (omega (arith, e))
+  leads-level (suc n) (x ∷ xs) [] e = absurd (omega (arith, e))
+  leads-level (suc n) (x ∷ xs) (d ∷ bs) e = leads-level n xs bs (omega (arith, e))
+
+  -- those edited as the series at o, of the pairs of m
+  module _ (o : ℕ) (within : o < length os) (key : getD ok o 0 ≡ k) where
+    abbrev b : Series
+    b = getD os o noSeries
+
+    abbrev lead : ℕ
+    lead = leadOf q ml k (b .labels) 0 ok ol
+
+    abbrev c : Placed
+    c = record { place = record { side = side; number = o }; series = joinedPair q m b }
+
+    lead-within : lead < length os
+    lead-within = let z = lead-soon 0 ok os same o within key in omega (arith, z)
+
+    edited-alike : (x : Placed) → sameEdited (c .series) (editAs x .series) ≡ sameEditedBy q ml (b .labels) (x .series .labels)
+    unfolding sameEdited sameEditedBy
+    edited-alike x = refl
+
+    alike-keyed : alikeTo c cs ≡ map editAs (keep (λ x. sameEditedBy q ml (b .labels) (x .series .labels)) (keyed side k 0 ok os))
+    unfolding sameEdited sameEditedBy
+    alike-keyed = keep-map (λ y. sameEdited (c .series) (y .series)) editAs (keyed side k 0 ok os)
+
+    alike-from : alikeTo c cs
+        ≡ editAs (record { place = record { side = side; number = 0 + lead }; series = getD os lead noSeries })
+        ∷ map editAs (keep (λ x. sameEditedBy q ml (b .labels) (x .series .labels)) (keyed side k (suc (0 + lead)) (drop (suc lead) ok) (drop (suc lead) os)))
+    alike-from = alike-keyed ∙ ap (map editAs) (from-lead q ml k side (b .labels) 0 ok os same lead (sym (zero-plus lead)) lead-within)
+
+    first-alike : isFirst c (alikeTo c cs) ≡ eqb lead o
+    first-alike = ap (isFirst c) alike-from ∙ same-side side (eqb o (0 + lead)) ∙ ap (eqb o) (zero-plus lead) ∙ eqb-sym o lead
+
+    group-merged : lead ≡ o → mergedIntoEarliest allowed (alikeTo c cs) ≡ mergedAs (record { side = side; number = o }) (joinedLabels q ml (b .labels)) side (mergeLead allowed p (readingsOf os) leads o)
+    group-merged h =
+        ap (mergedIntoEarliest allowed) (alike-from ∙ at-o)
+        ∙ absorbed-relabelled allowed c (joinedPair q m) (λ d. refl) (keep (λ x. sameEditedBy q ml (b .labels) (x .series .labels)) (keyed side k (suc o) (drop (suc o) ok) (drop (suc o) os))) (joinedPair q m b)
+        ∙ ap (absorbed allowed c (joinedPair q m b)) behind
+        ∙ absorbed-group allowed p (readingsOf os) side o c (suc o) (drop (suc o) leads) (drop (suc o) os) (joinedPair q m b) level rows-behind
+        ∙ ap (λ r. mergedAs (record { side = side; number = o }) (joinedLabels q ml (b .labels)) side (mergeGroup allowed p (readingsOf os) o (suc o) (drop (suc o) leads) r)) stands
+        ∙ closed
+      where
+        at-o : editAs (record { place = record { side = side; number = 0 + lead }; series = getD os lead noSeries })
+            ∷ map editAs (keep (λ x. sameEditedBy q ml (b .labels) (x .series .labels)) (keyed side k (suc (0 + lead)) (drop (suc lead) ok) (drop (suc lead) os)))
+            ≡ c ∷ map editAs (keep (λ x. sameEditedBy q ml (b .labels) (x .series .labels)) (keyed side k (suc o) (drop (suc o) ok) (drop (suc o) os)))
+        at-o = rw (zero-plus lead, h)
+
+        behind : keep (λ x. sameEditedBy q ml (b .labels) (x .series .labels)) (keyed side k (suc o) (drop (suc o) ok) (drop (suc o) os)) ≡ keyed side o (suc o) (drop (suc o) leads) (drop (suc o) os)
+        behind =
+            led-keyed side (λ d. sameEditedBy q ml (b .labels) (d .labels)) k o (suc o) (drop (suc o) ok) (drop (suc o) os) (drop (suc o) leads)
+            (LedBy-drop (λ d. sameEditedBy q ml (b .labels) (d .labels)) k o (suc o) ok os leads (leads-led (b .labels) o h within ok os same))
+
+        level : length (drop (suc o) leads) ≡ length (drop (suc o) os)
+        level = leads-level (suc o) ok os same
+
+        rows-behind : RowsAt p (readingsOf os) (suc o) (drop (suc o) os)
+        rows-behind = subst (λ (n : ℕ). RowsAt p (readingsOf os) n (drop (suc o) os)) (zero-plus (suc o)) (RowsAt-drop p (readingsOf os) 0 (suc o) os rowsOne)
+
+        stands : joinedPair q m b .row ≡ rowAt p (readingsOf os) o
+        stands = sym (ap (rowAt p (readingsOf os)) (sym (zero-plus o)) ∙ row-at p (readingsOf os) 0 os rowsOne o within)
+
+        closed : mergedAs (record { side = side; number = o }) (joinedLabels q ml (b .labels)) side (mergeGroup allowed p (readingsOf os) o (suc o) (drop (suc o) leads) (rowAt p (readingsOf os) o))
+            ≡ mergedAs (record { side = side; number = o }) (joinedLabels q ml (b .labels)) side (mergeLead allowed p (readingsOf os) leads o)
+        closed = unfold mergeLead in refl
