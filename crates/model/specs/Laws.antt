@@ -4,4 +4,6 @@ pub mod Order
 pub mod Tags
 pub mod Record
 pub mod Edits
+pub mod SetTags
+pub mod Query
 pub mod Vector

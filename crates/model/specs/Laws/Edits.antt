@@ -1,9 +1,8 @@
 -- Edits keep labels well formed. Assumes nothing.
 use Prim.Native.Nat.{ℕ}
-use mathlib.Core.Path.{_≡_, refl, sym, ap, _∙_}
+use mathlib.Core.Path.{_≡_}
 use mathlib.Core.Bool.{Bool, true, false, not, cond}
 use mathlib.Core.List.{List, [], _∷_}
-use lib.ListN.{length}
 use native.Mathlib.Omega.{arith}
 use Rattle.model.specs.Lists.{cases, keep, All}
 use Rattle.model.specs.Labels.{Tag, Labels, sameBytes, below, nameLabel, mayFollow, ascending, valueOf, GoodField, GoodTag, WellFormed}

@@ -1,6 +1,6 @@
 -- Laws of lists: what passes a test, what each element gives, what holds of each. Assumes nothing.
-use mathlib.Core.Path.{_≡_, refl, sym, ap, _∙_}
-use mathlib.Core.Bool.{Bool, true, false, cond}
+use mathlib.Core.Path.{_≡_, refl}
+use mathlib.Core.Bool.{Bool, true}
 use mathlib.Core.List.{List, [], _∷_, _++_, map, append-assoc}
 use Rattle.model.specs.Lists.{cases, keep, All, gather}
 

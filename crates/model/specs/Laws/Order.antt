@@ -1,14 +1,14 @@
 -- The order of keys: bytes compared, tags that ascend, and what keeps them so. Assumes nothing.
-use Prim.Native.Nat.{ℕ, _<_, _≤_}
+use Prim.Native.Nat.{ℕ, _<_}
 use mathlib.Core.Path.{_≡_, refl, sym, ap, _∙_}
-use mathlib.Core.Bool.{Bool, true, false, not, cond, _&&_, _||_}
-use mathlib.Core.Option.{Option, none, some}
+use mathlib.Core.Bool.{Bool, true, false, not, _&&_, _||_}
+use mathlib.Core.Option.{none, some}
 use mathlib.Core.List.{List, [], _∷_}
 use native.Mathlib.Omega.{arith}
 use lib.Dec.{ltb, eqb}
 use borrow.Author.Tests.{ltb-true, ltb-false, lt-ltb, le-ltb, eqb-true, eq-eqb}
 use Rattle.model.specs.Lists.{cases, keep}
-use Rattle.model.specs.Labels.{Tag, sameBytes, below, nameLabel, mayFollow, ascending, valueOf, sameTags}
+use Rattle.model.specs.Labels.{Tag, sameBytes, below, nameLabel, mayFollow, ascending, valueOf}
 use Rattle.model.specs.Edits.{insertTag}
 use Rattle.model.specs.Laws.Booleans.{never, both-of, both-so}
 

@@ -1,6 +1,6 @@
 -- Records: `decode` and `encode` undo each other, and what bytes decode to is well formed. Assumes nothing.
 use Prim.Native.Nat.{ℕ, zero, suc, _≤_, _<_}
-use mathlib.Core.Path.{_≡_, refl, sym, ap, _∙_, subst}
+use mathlib.Core.Path.{_≡_, refl, ap, subst}
 use mathlib.Core.List.{List, [], _∷_, _++_, append-assoc}
 use mathlib.Core.Bool.{Bool, true, false, cond}
 use native.Mathlib.Omega.{arith}
@@ -11,7 +11,7 @@ use borrow.Author.Tests.{le-leb, leb-true}
 use Rattle.model.specs.Lists.{All}
 use Rattle.model.specs.Limits.{maxTags}
 use Rattle.model.specs.Labels.{Tag, Labels, ascending, Bytes, GoodField, GoodTag, WellFormed}
-use Rattle.model.specs.Record.{Field, short, field, readField, onField, RawTags, cutTags, rawTags, withTag, decodeTags, Decoded, decoded, cut, badKey, judged, decodeCounted, decode, encodeField, encodeTags, encode}
+use Rattle.model.specs.Record.{Field, short, field, readField, onField, RawTags, cutTags, rawTags, withTag, decodeTags, decoded, cut, badKey, judged, decodeCounted, decode, encodeField, encodeTags, encode}
 use Rattle.model.specs.Laws.Lists.{All-append, All-front, All-back}
 
 -- a field that was written is read
@@ -30,7 +30,7 @@ read-tags (t ∷ ts) r =
 pub decode-encode : (l : Labels) (r : List ℕ) → length (l .tags) ≤ maxTags → ascending [] (l .tags) ≡ true → decode (encode l ++ r) ≡ decoded l r
 unfolding decode encode
 decode-encode l r few asc =
-    simp (append-assoc, read-field (l .name), le-leb (length (l .tags)) 32 few, read-tags (l .tags) r, asc)
+    simp (append-assoc, read-field (l .name), le-leb (length (l .tags)) maxTags few, read-tags (l .tags) r, asc)
 
 -- what a read field was made of
 pub field-read : (s x r : List ℕ) → readField s ≡ field x r → s ≡ encodeField x ++ r
@@ -104,25 +104,25 @@ decode-is s l r e = go (readField s) refl e
     not-badKey : badKey ≡ decoded l r → ⊥
     not-badKey e = let z : _≡_ {A = ℕ} 0 1 = cc in omega arith
 
-    last : (x s₁ : List ℕ) (n : ℕ) (ts : List Tag) (q : List ℕ) → s ≡ encodeField x ++ (n ∷ s₁) → leb n 32 ≡ true → decodeTags n s₁ ≡ rawTags ts q → (b : Bool) → ascending [] ts ≡ b → cond b (decoded (record { name = x; tags = ts }) q) badKey ≡ decoded l r → RecordOf s l r
+    last : (x s₁ : List ℕ) (n : ℕ) (ts : List Tag) (q : List ℕ) → s ≡ encodeField x ++ (n ∷ s₁) → leb n maxTags ≡ true → decodeTags n s₁ ≡ rawTags ts q → (b : Bool) → ascending [] ts ≡ b → cond b (decoded (record { name = x; tags = ts }) q) badKey ≡ decoded l r → RecordOf s l r
     last x s₁ n ts q hs hn ht false ha e = absurd (not-badKey e)
     last x s₁ n ts q hs hn ht true ha e =
         let t = tags-read n s₁ ts q ht in
         let hl : l ≡ record { name = x; tags = ts } = cc in
         let hr : r ≡ q = cc in
-        rw hl (record { few = omega (arith, t .count, leb-true n 32 hn); order = ha; bytes = rw (encode-split, hs, hr, t .bytes, ← t .count) })
+        rw hl (record { few = omega (arith, t .count, leb-true n maxTags hn); order = ha; bytes = rw (encode-split, hs, hr, t .bytes, ← t .count) })
 
-    go₃ : (x s₁ : List ℕ) (n : ℕ) → s ≡ encodeField x ++ (n ∷ s₁) → leb n 32 ≡ true → (w : RawTags) → decodeTags n s₁ ≡ w → judged x w ≡ decoded l r → RecordOf s l r
+    go₃ : (x s₁ : List ℕ) (n : ℕ) → s ≡ encodeField x ++ (n ∷ s₁) → leb n maxTags ≡ true → (w : RawTags) → decodeTags n s₁ ≡ w → judged x w ≡ decoded l r → RecordOf s l r
     go₃ x s₁ n hs hn cutTags ht e = absurd (not-cut e)
     go₃ x s₁ n hs hn (rawTags ts q) ht e = last x s₁ n ts q hs hn ht (ascending [] ts) refl e
 
-    go₂ : (x s₁ : List ℕ) (n : ℕ) → s ≡ encodeField x ++ (n ∷ s₁) → (b : Bool) → leb n 32 ≡ b → cond b (judged x (decodeTags n s₁)) cut ≡ decoded l r → RecordOf s l r
+    go₂ : (x s₁ : List ℕ) (n : ℕ) → s ≡ encodeField x ++ (n ∷ s₁) → (b : Bool) → leb n maxTags ≡ b → cond b (judged x (decodeTags n s₁)) cut ≡ decoded l r → RecordOf s l r
     go₂ x s₁ n hs true hn e = go₃ x s₁ n hs hn (decodeTags n s₁) refl e
     go₂ x s₁ n hs false hn e = absurd (not-cut e)
 
     go₁ : (x s₁ : List ℕ) → s ≡ encodeField x ++ s₁ → decodeCounted x s₁ ≡ decoded l r → RecordOf s l r
     go₁ x [] hs e = absurd (not-cut e)
-    go₁ x (n ∷ s₁) hs e = go₂ x s₁ n hs (leb n 32) refl e
+    go₁ x (n ∷ s₁) hs e = go₂ x s₁ n hs (leb n maxTags) refl e
 
     go : (f : Field) → readField s ≡ f → onField f cut decodeCounted ≡ decoded l r → RecordOf s l r
     go short h e = absurd (not-cut e)

@@ -1,14 +1,14 @@
 -- Two tag lists in order are equal where every key's value is, and tags are the same just where they are equal. Assumes nothing.
 use Prim.Native.Nat.{ℕ}
 use mathlib.Core.Path.{_≡_, refl, sym, ap, _∙_}
-use mathlib.Core.Bool.{Bool, true, false, not, cond, _&&_}
+use mathlib.Core.Bool.{true, _&&_}
 use mathlib.Core.Option.{Option, none, some}
 use mathlib.Core.List.{List, [], _∷_}
 use native.Mathlib.Omega.{arith}
 use Rattle.model.specs.Lists.{cases}
-use Rattle.model.specs.Labels.{Tag, sameBytes, below, nameLabel, mayFollow, ascending, valueOf, sameTags}
-use Rattle.model.specs.Laws.Booleans.{never, both-of, both-so}
-use Rattle.model.specs.Laws.Order.{same-is, is-same, same-refl, below-other, below-unlike, value-before, value-none, value-here, value-later, ascending-tail, ascending-cons, may-follow}
+use Rattle.model.specs.Labels.{Tag, sameBytes, below, ascending, valueOf, sameTags}
+use Rattle.model.specs.Laws.Booleans.{never, both-of}
+use Rattle.model.specs.Laws.Order.{same-is, same-refl, below-other, value-before, value-none, value-here, value-later, ascending-tail, ascending-cons, may-follow}
 
 tag-is : (t u : Tag) → t .key ≡ u .key → t .value ≡ u .value → t ≡ u
 tag-is t u e f = λ i. record { key = e i; value = f i }

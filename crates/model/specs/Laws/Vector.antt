@@ -1,5 +1,5 @@
 -- Vectors: a valid one, encoded, is taken to itself; and what is taken is valid, and the encoding of its result. Assumes nothing.
-use Prim.Native.Nat.{ℕ, zero, suc, _+_, _*_, _/_, _%_, _≤_, _<_, _-_}
+use Prim.Native.Nat.{ℕ, zero, suc, _+_, _*_, _/_, _%_, _≤_, _<_}
 use mathlib.Core.Path.{_≡_, refl, sym, ap, _∙_}
 use mathlib.Core.Bool.{Bool, true, false, cond, _&&_}
 use mathlib.Core.List.{List, [], _∷_, _++_, map}
@@ -12,7 +12,7 @@ use Rattle.model.specs.Limits.{maxSeries, maxPoints, maxTags, maxLabelBy
 use Rattle.model.specs.Lists.{All}
 use Rattle.model.specs.Labels.{Labels, Bytes, WellFormed}
 use Rattle.model.specs.Record.{Decoded, decoded, cut, badKey, decode, encode}
-use Rattle.model.specs.Vector.{Series, Shape, Vector, labelBytes, readingsOf, twoBytes, sizesOf, labelPart, TakenVector, vector, faulty, Records, records, badRecord, withRecord, onDecoded, recordsIn, seriesOf, withReadings, withSizes, twoBytesAt, takeVector, Readings, GoodSeries, Valid}
+use Rattle.model.specs.Vector.{Series, Shape, Vector, labelBytes, readingsOf, sizesOf, labelPart, vector, faulty, Records, records, badRecord, withRecord, onDecoded, recordsIn, seriesOf, withReadings, withSizes, twoBytesAt, takeVector, Readings, GoodSeries, Valid}
 use Rattle.model.specs.Laws.Booleans.{both-of}
 use Rattle.model.specs.Laws.Lists.{All-front, All-back, All-append}
 use Rattle.model.specs.Laws.Record.{decode-encode, decode-is, decode-well, good-encoded}
