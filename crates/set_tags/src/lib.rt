@@ -1,0 +1,246 @@
+// A join's edited record: the many side's labels, with the join labels set from a one-side series, the source.
+// Its tags are the ordered merge of two streams, the tags that stay and the tags that are set, so that no work array is needed.
+ghost use mathlib.Core.Path.{_≡_};
+ghost use mathlib.Core.Bool.{cond};
+ghost use Prim.Native.Nat.{_+_, _-_, _≤_, _<_};
+ghost use lib.ListN.{length, take, drop};
+ghost use Rattle.model.specs.Laws.SetTags.{isSet, stays, stayingTags, setFrom};
+ghost use Rattle.metric_name.specs.Names.{namesOf};
+ghost use Rattle.metric_name.specs.Lenient.{labelsOf};
+ghost use Rattle.metric_name.specs.Cursors.{NextAt};
+ghost use Rattle.set_tags.specs.Streams.{WalkOf, EditedAt};
+use metric_name::Next;
+
+// Whether the tags of a label are set from the source.
+pub fn is_set(join: &[u8], skip: &[u8], label: &[u8]) -> bool
+    ensures { λ r. ⌜ r ≡ isSet (namesOf (now (join .entry))) (namesOf (now (skip .entry))) (now (label .entry)) ⌝ }
+{
+    if metric_name::in_list(skip, label) {
+        return false;
+    }
+    if metric_name::is_star(join) {
+        return true;
+    }
+    metric_name::in_list(join, label)
+}
+
+// Whether the many side's tag of a label stays.
+pub fn is_staying(source: &[u8], join: &[u8], skip: &[u8], label: &[u8]) -> bool
+    ensures { λ r. ⌜ r ≡ stays (namesOf (now (join .entry))) (namesOf (now (skip .entry))) (labelsOf (now (source .entry)) .tags) (now (label .entry)) ⌝ }
+{
+    if is_set(join, skip, label) {
+        if metric_name::is_star(join) {
+            if metric_name::has_tag(source, label) {
+                false
+            } else {
+                true
+            }
+        } else {
+            false
+        }
+    } else {
+        true
+    }
+}
+
+// The first of the many side's n tags at a place that stays.
+pub fn next_staying(
+    many: &[u8],
+    at: usize,
+    n: usize,
+    source: &[u8],
+    join: &[u8],
+    skip: &[u8],
+) -> Next
+    ensures { λ r. ⌜ NextAt (stayingTags (namesOf (now (join .entry))) (namesOf (now (skip .entry))) (labelsOf (now (source .entry)) .tags)) (now (many .entry)) n at r ⌝ }
+{
+    let mut p = at;
+    let mut m = n;
+    loop {
+        let Next::Tag {
+            start,
+            key,
+            key_end,
+            end,
+            left,
+        } = metric_name::next_tag(many, p, m)
+        else {
+            return Next::End;
+        };
+        if is_staying(source, join, skip, &many[key..key_end]) {
+            return Next::Tag {
+                start,
+                key,
+                key_end,
+                end,
+                left,
+            };
+        }
+        p = end;
+        m = left;
+    }
+}
+
+// The first of the source's n tags at a place that is set.
+pub fn next_set(source: &[u8], at: usize, n: usize, join: &[u8], skip: &[u8]) -> Next
+    ensures { λ r. ⌜ NextAt (setFrom (namesOf (now (join .entry))) (namesOf (now (skip .entry)))) (now (source .entry)) n at r ⌝ }
+{
+    let mut p = at;
+    let mut m = n;
+    loop {
+        let Next::Tag {
+            start,
+            key,
+            key_end,
+            end,
+            left,
+        } = metric_name::next_tag(source, p, m)
+        else {
+            return Next::End;
+        };
+        if is_set(join, skip, &source[key..key_end]) {
+            return Next::Tag {
+                start,
+                key,
+                key_end,
+                end,
+                left,
+            };
+        }
+        p = end;
+        m = left;
+    }
+}
+
+// Where an edit stands: `left` tags of the many side's record are at `many`, and `more` of the source's at `source`.
+pub struct Walk {
+    pub many: usize,
+    pub left: usize,
+    pub source: usize,
+    pub more: usize,
+}
+
+// The next tag of the edited record: its bytes are start..end of the source's record or of the many side's; and the walk behind it.
+pub enum Edited {
+    Tag {
+        sourced: bool,
+        start: usize,
+        end: usize,
+        rest: Walk,
+    },
+    End,
+}
+
+// The walk at the start of both records' tags.
+pub fn walk_of(many: &[u8], source: &[u8]) -> Walk
+    ensures { λ r. ⌜ WalkOf (now (many .entry)) (now (source .entry)) r ⌝ }
+{
+    let m = metric_name::tags_of(many);
+    let s = metric_name::tags_of(source);
+    Walk {
+        many: m.at,
+        left: m.count,
+        source: s.at,
+        more: s.count,
+    }
+}
+
+// The next tag: of the two streams' first tags the one with the lower key. No key stands in both.
+pub fn next_edited(many: &[u8], source: &[u8], w: Walk, join: &[u8], skip: &[u8]) -> Edited
+    ensures { λ r. ⌜ EditedAt (namesOf (now (join .entry))) (namesOf (now (skip .entry))) (now (many .entry)) (now (source .entry)) w r ⌝ }
+{
+    let x = next_staying(many, w.many, w.left, source, join, skip);
+    let y = next_set(source, w.source, w.more, join, skip);
+    match x {
+        Next::Tag {
+            start,
+            key,
+            key_end,
+            end,
+            left,
+        } => match y {
+            Next::Tag {
+                start: begin,
+                key: other,
+                key_end: other_end,
+                end: stop,
+                left: more,
+            } => {
+                if metric_name::is_below(&many[key..key_end], &source[other..other_end]) {
+                    Edited::Tag {
+                        sourced: false,
+                        start,
+                        end,
+                        rest: Walk {
+                            many: end,
+                            left,
+                            source: w.source,
+                            more: w.more,
+                        },
+                    }
+                } else {
+                    Edited::Tag {
+                        sourced: true,
+                        start: begin,
+                        end: stop,
+                        rest: Walk {
+                            many: w.many,
+                            left: w.left,
+                            source: stop,
+                            more,
+                        },
+                    }
+                }
+            }
+            Next::End => Edited::Tag {
+                sourced: false,
+                start,
+                end,
+                rest: Walk {
+                    many: end,
+                    left,
+                    source: w.source,
+                    more: w.more,
+                },
+            },
+        },
+        Next::End => match y {
+            Next::Tag {
+                start: begin,
+                key: _,
+                key_end: _,
+                end: stop,
+                left: more,
+            } => Edited::Tag {
+                sourced: true,
+                start: begin,
+                end: stop,
+                rest: Walk {
+                    many: w.many,
+                    left: w.left,
+                    source: stop,
+                    more,
+                },
+            },
+            Next::End => Edited::End,
+        },
+    }
+}
+
+// The bytes of a tag of either record.
+fn tag_bytes<'a>(
+    many: &'a [u8],
+    source: &'a [u8],
+    sourced: bool,
+    start: usize,
+    end: usize,
+) -> &'a [u8]
+    requires { ⌜ (start ≤ end) × (end ≤ length (cond sourced (now source) (now many))) ⌝ }
+    ensures { λ r. ⌜ now r ≡ take (end - start) (drop start (cond sourced (now (source .entry)) (now (many .entry)))) ⌝ }
+{
+    if sourced {
+        &source[start..end]
+    } else {
+        &many[start..end]
+    }
+}
