@@ -14,7 +14,7 @@ use Rattle.metric_name.specs.declared.Tags.{Tags}
 use Rattle.metric_name.specs.declared.Next.{Next}
 use Rattle.metric_name.specs.declared.Next.the-variants as N
 use Rattle.metric_name.proofs.Cursors.{next-stands, next-fewer, next-tags, next-ended, span-order}
-use Rattle.set_tags.specs.Streams.{tagsLeft, WalkOf, FirstLies, EditedAt}
+use Rattle.set_tags.specs.Streams.{tagsLeft, WalkOf, Spans, FirstLies, EditedAt}
 use Rattle.set_tags.specs.declared.Walk.{Walk}
 use Rattle.set_tags.specs.declared.Edited.the-variants as E
 
@@ -51,8 +51,7 @@ module _ (join skip : Names) (many source : List ℕ) (w : Walk) (x y : Next)
             record {
               tag = tagAt many a e z;
               first = h;
-              order = span-order staying many (w .left) (w .many) x hx b a e z m ex;
-              within = next-stands staying many (w .left) (w .many) x hx b a e z m ex .within;
+              spans = record { order = span-order staying many (w .left) (w .many) x hx b a e z m ex; within = next-stands staying many (w .left) (w .many) x hx b a e z m ex .within };
               bytes = next-stands staying many (w .left) (w .many) x hx b a e z m ex .bytes;
             },
             omega (arith, next-fewer staying many (w .left) (w .many) x hx b a e z m ex),
@@ -82,8 +81,7 @@ module _ (join skip : Names) (many source : List ℕ) (w : Walk) (x y : Next)
             record {
               tag = tagAt source a e z;
               first = h;
-              order = span-order setting source (w .more) (w .source) y hy b a e z m ey;
-              within = next-stands setting source (w .more) (w .source) y hy b a e z m ey .within;
+              spans = record { order = span-order setting source (w .more) (w .source) y hy b a e z m ey; within = next-stands setting source (w .more) (w .source) y hy b a e z m ey .within };
               bytes = next-stands setting source (w .more) (w .source) y hy b a e z m ey .bytes;
             },
             omega (arith, next-fewer setting source (w .more) (w .source) y hy b a e z m ey),
@@ -103,11 +101,14 @@ module _ (join skip : Names) (many source : List ℕ) (w : Walk) (x y : Next)
 
 -- `tag_bytes`
 module _ (t : Bool) (source many : List ℕ) (start end : ℕ) where
-  pub source-within : t ≡ true → end ≤ length (cond t source many) → end ≤ length source
-  source-within e h = rw e at h
+  pub span-ordered : Spans (cond t source many) start end → start ≤ end
+  span-ordered h = h .order
 
-  pub many-within : t ≡ false → end ≤ length (cond t source many) → end ≤ length many
-  many-within e h = rw e at h
+  pub source-within : t ≡ true → Spans (cond t source many) start end → end ≤ length source
+  source-within e h = rw e at (h .within)
+
+  pub many-within : t ≡ false → Spans (cond t source many) start end → end ≤ length many
+  many-within e h = rw e at (h .within)
 
   pub source-bytes : t ≡ true → take (end - start) (drop start source) ≡ take (end - start) (drop start (cond t source many))
   source-bytes e = rw e

@@ -9,6 +9,8 @@ use Rattle.model.specs.Edits.{Names}
 use Rattle.model.specs.Laws.SetTags.{isSet, stays, stayingTags, setFrom, mergeTags}
 use Rattle.metric_name.specs.Lenient.{tagsUpTo, labelsOf}
 use Rattle.metric_name.specs.Cursors.{encodeTag, Sieve}
+use Rattle.model.specs.Record.{encodeTags}
+use Rattle.set_tags.specs.declared.Size.{Size}
 use Rattle.set_tags.specs.declared.Walk.{Walk}
 use Rattle.set_tags.specs.declared.Edited.{Edited}
 use Rattle.set_tags.specs.declared.Edited.the-variants as E
@@ -34,12 +36,16 @@ pub record WalkOf (many source : List ℕ) (w : Walk) : Type 0 where
   pub tags : (join skip : Names) → tagsLeft join skip many source w ≡ editedTags join skip many source
   pub few : w .left + w .more ≤ 510
 
+-- a part of bytes
+pub record Spans (s : List ℕ) (start end : ℕ) : Type 0 where
+  pub order : start ≤ end
+  pub within : end ≤ length s
+
 -- the first tag of a list lies from `start` to `end`
 pub record FirstLies (s : List ℕ) (start end : ℕ) (tags rest : List Tag) : Type 0 where
   pub tag : Tag
   pub first : tags ≡ tag ∷ rest
-  pub order : start ≤ end
-  pub within : end ≤ length s
+  pub spans : Spans s start end
   pub bytes : take (end - start) (drop start s) ≡ encodeTag tag
 
 abbrev pub tagsIn : Walk → ℕ
@@ -53,3 +59,8 @@ EditedFrom join skip many source w E.End = tagsLeft join skip many source w ≡ 
 -- x is the first of the tags left
 pub record EditedAt (join skip : Names) (many source : List ℕ) (w : Walk) (x : Edited) : Type 0 where
   pub next : EditedFrom join skip many source w x
+
+-- the size of tags
+pub record SizeOf (ts : List Tag) (r : Size) : Type 0 where
+  pub tags : r .tags ≡ length ts
+  pub bytes : r .bytes ≡ length (encodeTags ts)

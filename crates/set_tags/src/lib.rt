@@ -5,10 +5,13 @@ ghost use mathlib.Core.Bool.{cond};
 ghost use Prim.Native.Nat.{_+_, _-_, _≤_, _<_};
 ghost use lib.ListN.{length, take, drop};
 ghost use Rattle.model.specs.Laws.SetTags.{isSet, stays, stayingTags, setFrom};
+ghost use Rattle.model.specs.Limits.{maxLabelBytes};
+ghost use Rattle.model.specs.Labels.{sameTags};
 ghost use Rattle.metric_name.specs.Names.{namesOf};
+ghost use Rattle.metric_name.specs.Keys.{hashOf};
 ghost use Rattle.metric_name.specs.Lenient.{labelsOf};
 ghost use Rattle.metric_name.specs.Cursors.{NextAt};
-ghost use Rattle.set_tags.specs.Streams.{WalkOf, EditedAt};
+ghost use Rattle.set_tags.specs.Streams.{Spans, WalkOf, EditedAt, editedTags, SizeOf};
 use metric_name::Next;
 
 // Whether the tags of a label are set from the source.
@@ -131,6 +134,12 @@ pub enum Edited {
     End,
 }
 
+// The tags of an edited record, and their bytes.
+pub struct Size {
+    pub tags: usize,
+    pub bytes: usize,
+}
+
 // The walk at the start of both records' tags.
 pub fn walk_of(many: &[u8], source: &[u8]) -> Walk
     ensures { λ r. ⌜ WalkOf (now (many .entry)) (now (source .entry)) r ⌝ }
@@ -235,12 +244,104 @@ fn tag_bytes<'a>(
     start: usize,
     end: usize,
 ) -> &'a [u8]
-    requires { ⌜ (start ≤ end) × (end ≤ length (cond sourced (now source) (now many))) ⌝ }
+    requires { ⌜ Spans (cond sourced (now source) (now many)) start end ⌝ }
     ensures { λ r. ⌜ now r ≡ take (end - start) (drop start (cond sourced (now (source .entry)) (now (many .entry)))) ⌝ }
 {
     if sourced {
         &source[start..end]
     } else {
         &many[start..end]
+    }
+}
+
+// Whether a many-side record has the same tags edited from the source a as from the source b.
+pub fn same_edited<'a>(many: &'a [u8], a: &'a [u8], b: &'a [u8], join: &[u8], skip: &[u8]) -> bool
+    ensures { λ r. ⌜ r ≡ sameTags (editedTags (namesOf (now (join .entry))) (namesOf (now (skip .entry))) (now (many .entry)) (now (a .entry))) (editedTags (namesOf (now (join .entry))) (namesOf (now (skip .entry))) (now (many .entry)) (now (b .entry))) ⌝ }
+{
+    let mut v = walk_of(many, a);
+    let mut w = walk_of(many, b);
+    loop {
+        let x = next_edited(many, a, v, join, skip);
+        let y = next_edited(many, b, w, join, skip);
+        match x {
+            Edited::Tag {
+                sourced,
+                start,
+                end,
+                rest,
+            } => match y {
+                Edited::Tag {
+                    sourced: other,
+                    start: begin,
+                    end: stop,
+                    rest: behind,
+                } => {
+                    if metric_name::same_bytes(
+                        tag_bytes(many, a, sourced, start, end),
+                        tag_bytes(many, b, other, begin, stop),
+                    ) {
+                        v = rest;
+                        w = behind;
+                    } else {
+                        return false;
+                    }
+                }
+                Edited::End => return false,
+            },
+            Edited::End => match y {
+                Edited::Tag {
+                    sourced: _,
+                    start: _,
+                    end: _,
+                    rest: _,
+                } => return false,
+                Edited::End => return true,
+            },
+        }
+    }
+}
+
+// A number that sources share where they give a many-side record the same tags.
+pub fn hash_edited<'a>(many: &'a [u8], source: &'a [u8], join: &[u8], skip: &[u8]) -> u64
+    ensures { λ r. ⌜ r ≡ hashOf (editedTags (namesOf (now (join .entry))) (namesOf (now (skip .entry))) (now (many .entry)) (now (source .entry))) ⌝ }
+{
+    let mut w = walk_of(many, source);
+    let mut h: u64 = 0;
+    loop {
+        let Edited::Tag {
+            sourced,
+            start,
+            end,
+            rest,
+        } = next_edited(many, source, w, join, skip)
+        else {
+            return h;
+        };
+        h = metric_name::hash_bytes(h, tag_bytes(many, source, sourced, start, end));
+        w = rest;
+    }
+}
+
+// How many tags the edited record has, and their bytes.
+pub fn edited_size(many: &[u8], source: &[u8], join: &[u8], skip: &[u8]) -> Size
+    requires { ⌜ (length (now many) ≤ maxLabelBytes) × (length (now source) ≤ maxLabelBytes) ⌝ }
+    ensures { λ r. ⌜ SizeOf (editedTags (namesOf (now (join .entry))) (namesOf (now (skip .entry))) (now (many .entry)) (now (source .entry))) r ⌝ }
+{
+    let mut w = walk_of(many, source);
+    let mut tags: usize = 0;
+    let mut bytes: usize = 0;
+    loop {
+        let Edited::Tag {
+            sourced: _,
+            start,
+            end,
+            rest,
+        } = next_edited(many, source, w, join, skip)
+        else {
+            return Size { tags, bytes };
+        };
+        tags += 1;
+        bytes += end - start;
+        w = rest;
     }
 }
