@@ -14,9 +14,13 @@ use Rattle.model.specs.Edits.{Names}
 use Rattle.metric_name.specs.Cursors.{encodeTag, encode-tag}
 use Rattle.metric_name.specs.Keys.{hashBytes, hashOf, hash-append}
 use Rattle.metric_name.proofs.Keys.{same-tag}
-use Rattle.set_tags.specs.Streams.{editedTags, tagsLeft, tagsIn, WalkOf, Spans, FirstLies, EditedAt, SizeOf}
+use Rattle.set_tags.specs.Streams.{editedTags, tagsLeft, tagsIn, WalkOf, Spans, FirstLies, EditedAt}
+use Rattle.set_tags.specs.Records.{ShortRecords}
+use Rattle.set_tags.proofs.Sizes.{edited-short}
+use Rattle.label_edits.specs.Edited.{TagsSized}
+use Rattle.label_edits.specs.Written.{Put}
+use Rattle.label_edits.proofs.Written.{Rest, rest-start, rest-room, rest-put, rest-done}
 use Rattle.set_tags.specs.declared.Walk.{Walk}
-use Rattle.set_tags.specs.declared.Size.{Size}
 use Rattle.set_tags.specs.declared.Edited.{Edited}
 use Rattle.set_tags.specs.declared.Edited.the-variants as E
 
@@ -101,23 +105,25 @@ module _ (join skip : Names) (many source : List ℕ) (w : Walk) (h want : ℕ) 
 
 -- measuring
 
--- each tag is at most as long as the bytes that it lies in, and there are at most 510
 pub record SizeLeft (join skip : Names) (many source : List ℕ) (w : Walk) (tags bytes : ℕ) (all : List Tag) : Type 0 where
   pub count : tags + length (tagsLeft join skip many source w) ≡ length all
   pub size : bytes + length (encodeTags (tagsLeft join skip many source w)) ≡ length (encodeTags all)
   pub few : tags + (w .left + w .more) ≤ 510
-  pub small : bytes ≤ tags * maxLabelBytes
+  pub small : length (encodeTags all) ≤ 2 * maxLabelBytes
 
-pub size-start : (join skip : Names) (many source : List ℕ) (w : Walk) → WalkOf many source w → SizeLeft join skip many source w 0 0 (editedTags join skip many source)
-size-start join skip many source w hw = record { count = rw (hw .tags join skip) (omega arith); size = rw (hw .tags join skip) (omega arith); few = omega (arith, hw .few); small = omega arith }
-
-cond-short : (t : Bool) (source many : List ℕ) (n : ℕ) → length many ≤ n → length source ≤ n → length (cond t source many) ≤ n
-cond-short true source many n hm hs = hs
-cond-short false source many n hm hs = hm
+pub size-start : (join skip : Names) (many source : List ℕ) (w : Walk) → WalkOf many source w → ShortRecords many source
+    → SizeLeft join skip many source w 0 0 (editedTags join skip many source)
+size-start join skip many source w hw short =
+    record {
+      count = rw (hw .tags join skip) (omega arith);
+      size = rw (hw .tags join skip) (omega arith);
+      few = omega (arith, hw .few);
+      small = omega (arith, edited-short join skip many source, short .manyShort, short .sourceShort);
+    }
 
 module _ (join skip : Names) (many source : List ℕ) (w : Walk) (tags bytes : ℕ) (all : List Tag) (inv : SizeLeft join skip many source w tags bytes all) (x : Edited)
     (hx : EditedAt join skip many source w x) where
-  pub size-done : x ≡ E.End → SizeOf all (record { tags = tags; bytes = bytes })
+  pub size-done : x ≡ E.End → TagsSized all (record { tags = tags; bytes = bytes })
   unfolding encodeTags
   size-done ex =
       let none = edit-ended join skip many source w x hx ex in
@@ -125,16 +131,7 @@ module _ (join skip : Names) (many source : List ℕ) (w : Walk) (tags bytes : �
       let size : bytes + 0 ≡ length (encodeTags all) = rw none at (inv .size) in
       record { tags = omega arith; bytes = omega arith }
 
-  module _ (t : Bool) (start end : ℕ) (rest : Walk) (ex : x ≡ E.Tag t start end rest) (hm : length many ≤ maxLabelBytes) (hs : length source ≤ maxLabelBytes) where
-    span-short : end - start ≤ maxLabelBytes
-    span-short = let s = edit-spans join skip many source w x hx t start end rest ex in omega (arith, s .within, cond-short t source many maxLabelBytes hm hs)
-
-    pub tags-fit : Fits w64 (tags + 1)
-    tags-fit = omega (arith, inv .few, edit-fewer join skip many source w x hx t start end rest ex)
-
-    pub bytes-fit : Fits w64 (bytes + (end - start))
-    bytes-fit = omega (arith, inv .small, inv .few, span-short)
-
+  module _ (t : Bool) (start end : ℕ) (rest : Walk) (ex : x ≡ E.Tag t start end rest) where
     pub size-turn : SizeLeft join skip many source rest (tags + 1) (bytes + (end - start)) all
     size-turn =
         let f = edit-first join skip many source w x hx t start end rest ex in
@@ -144,5 +141,41 @@ module _ (join skip : Names) (many source : List ℕ) (w : Walk) (tags bytes : �
           count = omega (arith, inv .count, ap length (f .first));
           size = omega (arith, inv .size, ap (λ l. length (encodeTags l)) (f .first), ap length (encode-tag (f .tag) (tagsLeft join skip many source rest)), length-append (encodeTag (f .tag)) (encodeTags (tagsLeft join skip many source rest)), span);
           few = omega (arith, inv .few, edit-fewer join skip many source w x hx t start end rest ex);
-          small = omega (arith, inv .small, span-short);
+          small = inv .small;
         }
+
+    pub tags-fit : Fits w64 (tags + 1)
+    tags-fit = omega (arith, size-turn .few)
+
+    pub bytes-fit : Fits w64 (bytes + (end - start))
+    bytes-fit = omega (arith, size-turn .size, inv .small)
+
+-- writing
+
+pub record PutLeft (join skip : Names) (many source : List ℕ) (w : Walk) (d₀ : List ℕ) (at : ℕ) (all d : List ℕ) (o : ℕ) : Type 0 where
+  pub rest : Rest d₀ at all d o (encodeTags (tagsLeft join skip many source w))
+
+no-tags : encodeTags [] ≡ []
+unfolding encodeTags
+no-tags = refl
+
+pub put-start : (join skip : Names) (many source : List ℕ) (w : Walk) (d : List ℕ) (at : ℕ) → WalkOf many source w → at + length (encodeTags (editedTags join skip many source)) ≤ length d
+    → PutLeft join skip many source w d at (encodeTags (editedTags join skip many source)) d at
+put-start join skip many source w d at hw room = record { rest = rw (hw .tags join skip) (rest-start d at (encodeTags (editedTags join skip many source)) room) }
+
+module _ (join skip : Names) (many source : List ℕ) (w : Walk) (d₀ : List ℕ) (at : ℕ) (all d : List ℕ) (o : ℕ) (inv : PutLeft join skip many source w d₀ at all d o) (x : Edited)
+    (hx : EditedAt join skip many source w x) where
+  pub put-ended : x ≡ E.End → Put d₀ at all d o
+  put-ended ex = rest-done d₀ at all d o (rw (edit-ended join skip many source w x hx ex, no-tags) at (inv .rest))
+
+  module _ (t : Bool) (start end : ℕ) (rest : Walk) (ex : x ≡ E.Tag t start end rest) (c : List ℕ) (hc : c ≡ take (end - start) (drop start (cond t source many))) where
+    left : Rest d₀ at all d o (c ++ encodeTags (tagsLeft join skip many source rest))
+    left =
+        let f = edit-first join skip many source w x hx t start end rest ex in
+        rw (hc, f .bytes) (rw (f .first, encode-tag) at (inv .rest))
+
+    pub one-room : o + length c ≤ length d
+    one-room = rest-room d₀ at all d o c (encodeTags (tagsLeft join skip many source rest)) left
+
+    pub put-one-tag : (d′ : List ℕ) (r : ℕ) → Put d o c d′ r → PutLeft join skip many source rest d₀ at all d′ r
+    put-one-tag d′ r hp = record { rest = rest-put d₀ at all d o c (encodeTags (tagsLeft join skip many source rest)) d′ r left hp }

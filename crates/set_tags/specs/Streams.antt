@@ -9,8 +9,6 @@ use Rattle.model.specs.Edits.{Names}
 use Rattle.model.specs.Laws.SetTags.{isSet, stays, stayingTags, setFrom, mergeTags}
 use Rattle.metric_name.specs.Lenient.{tagsUpTo, labelsOf}
 use Rattle.metric_name.specs.Cursors.{encodeTag, Sieve}
-use Rattle.model.specs.Record.{encodeTags}
-use Rattle.set_tags.specs.declared.Size.{Size}
 use Rattle.set_tags.specs.declared.Walk.{Walk}
 use Rattle.set_tags.specs.declared.Edited.{Edited}
 use Rattle.set_tags.specs.declared.Edited.the-variants as E
@@ -59,8 +57,3 @@ EditedFrom join skip many source w E.End = tagsLeft join skip many source w ≡ 
 -- x is the first of the tags left
 pub record EditedAt (join skip : Names) (many source : List ℕ) (w : Walk) (x : Edited) : Type 0 where
   pub next : EditedFrom join skip many source w x
-
--- the size of tags
-pub record SizeOf (ts : List Tag) (r : Size) : Type 0 where
-  pub tags : r .tags ≡ length ts
-  pub bytes : r .bytes ≡ length (encodeTags ts)

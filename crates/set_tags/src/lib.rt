@@ -5,13 +5,18 @@ ghost use mathlib.Core.Bool.{cond};
 ghost use Prim.Native.Nat.{_+_, _-_, _≤_, _<_};
 ghost use lib.ListN.{length, take, drop};
 ghost use Rattle.model.specs.Laws.SetTags.{isSet, stays, stayingTags, setFrom};
-ghost use Rattle.model.specs.Limits.{maxLabelBytes};
+ghost use Rattle.model.specs.Limits.{maxTags};
 ghost use Rattle.model.specs.Labels.{sameTags};
 ghost use Rattle.metric_name.specs.Names.{namesOf};
 ghost use Rattle.metric_name.specs.Keys.{hashOf};
 ghost use Rattle.metric_name.specs.Lenient.{labelsOf};
 ghost use Rattle.metric_name.specs.Cursors.{NextAt};
-ghost use Rattle.set_tags.specs.Streams.{Spans, WalkOf, EditedAt, editedTags, SizeOf};
+ghost use Rattle.set_tags.specs.Streams.{Spans, WalkOf, EditedAt, editedTags};
+ghost use Rattle.set_tags.specs.Records.{ShortRecords, namingOf, nameOf, edited};
+ghost use Rattle.label_edits.specs.Written.{Put};
+ghost use Rattle.label_edits.specs.Edited.{TagsSized, Sized};
+ghost use Rattle.model.specs.Record.{encodeField, encodeTags, encode};
+use label_edits::Size;
 use metric_name::Next;
 
 // Whether the tags of a label are set from the source.
@@ -132,12 +137,6 @@ pub enum Edited {
         rest: Walk,
     },
     End,
-}
-
-// The tags of an edited record, and their bytes.
-pub struct Size {
-    pub tags: usize,
-    pub bytes: usize,
 }
 
 // The walk at the start of both records' tags.
@@ -324,8 +323,8 @@ pub fn hash_edited<'a>(many: &'a [u8], source: &'a [u8], join: &[u8], skip: &[u8
 
 // How many tags the edited record has, and their bytes.
 pub fn edited_size(many: &[u8], source: &[u8], join: &[u8], skip: &[u8]) -> Size
-    requires { ⌜ (length (now many) ≤ maxLabelBytes) × (length (now source) ≤ maxLabelBytes) ⌝ }
-    ensures { λ r. ⌜ SizeOf (editedTags (namesOf (now (join .entry))) (namesOf (now (skip .entry))) (now (many .entry)) (now (source .entry))) r ⌝ }
+    requires { ⌜ ShortRecords (now many) (now source) ⌝ }
+    ensures { λ r. ⌜ TagsSized (editedTags (namesOf (now (join .entry))) (namesOf (now (skip .entry))) (now (many .entry)) (now (source .entry))) r ⌝ }
 {
     let mut w = walk_of(many, source);
     let mut tags: usize = 0;
@@ -344,4 +343,117 @@ pub fn edited_size(many: &[u8], source: &[u8], join: &[u8], skip: &[u8]) -> Size
         bytes += end - start;
         w = rest;
     }
+}
+
+// Writes the edited tags, and gives the place behind them.
+pub fn put_edited<'a>(
+    out: &mut [u8],
+    at: usize,
+    many: &'a [u8],
+    source: &'a [u8],
+    join: &[u8],
+    skip: &[u8],
+) -> usize
+    requires { ⌜ at + length (encodeTags (editedTags (namesOf (now join)) (namesOf (now skip)) (now many) (now source))) ≤ length (now out) ⌝ }
+    ensures { λ r. ⌜ Put (now (out .entry)) at (encodeTags (editedTags (namesOf (now (join .entry))) (namesOf (now (skip .entry))) (now (many .entry)) (now (source .entry)))) (now (out .exit)) r ⌝ }
+{
+    let mut w = walk_of(many, source);
+    let mut o = at;
+    loop {
+        let Edited::Tag {
+            sourced,
+            start,
+            end,
+            rest,
+        } = next_edited(many, source, w, join, skip)
+        else {
+            return o;
+        };
+        o = label_edits::put_bytes(out, o, tag_bytes(many, source, sourced, start, end));
+        w = rest;
+    }
+}
+
+// Where an edited record's name comes from.
+pub enum Naming {
+    Nobody,
+    Many,
+    Source,
+}
+
+// The source names the record where `__name__` is a join label outside the skip list; else the many side does, unless its name is cleared.
+pub fn naming_of(join: &[u8], skip: &[u8], reset: bool) -> Naming
+    ensures { λ r. ⌜ r ≡ namingOf (namesOf (now (join .entry))) (namesOf (now (skip .entry))) reset ⌝ }
+{
+    if metric_name::in_list(skip, b"__name__") {
+        return base_naming(reset);
+    }
+    if metric_name::in_list(join, b"__name__") {
+        return Naming::Source;
+    }
+    base_naming(reset)
+}
+
+fn base_naming(reset: bool) -> Naming
+    ensures { λ r. ⌜ r ≡ cond reset Naming.Nobody Naming.Many ⌝ }
+{
+    if reset { Naming::Nobody } else { Naming::Many }
+}
+
+// The bytes of an edited record's name, with their length.
+pub fn naming_size(many: &[u8], source: &[u8], naming: Naming) -> usize
+    ensures { λ r. ⌜ r ≡ length (encodeField (nameOf naming (now (many .entry)) (now (source .entry)))) ⌝ }
+{
+    match naming {
+        Naming::Nobody => 1,
+        Naming::Many => label_edits::name_size(many, true),
+        Naming::Source => label_edits::name_size(source, true),
+    }
+}
+
+// Writes an edited record's name.
+pub fn put_naming(out: &mut [u8], at: usize, many: &[u8], source: &[u8], naming: Naming) -> usize
+    requires { ⌜ at + length (encodeField (nameOf naming (now many) (now source))) ≤ length (now out) ⌝ }
+    ensures { λ r. ⌜ Put (now (out .entry)) at (encodeField (nameOf naming (now (many .entry)) (now (source .entry)))) (now (out .exit)) r ⌝ }
+{
+    match naming {
+        Naming::Nobody => label_edits::put_byte(out, at, 0),
+        Naming::Many => label_edits::put_name(out, at, many, true),
+        Naming::Source => label_edits::put_name(out, at, source, true),
+    }
+}
+
+// How many tags the edited record has, and its bytes.
+pub fn set_tags_size(many: &[u8], source: &[u8], join: &[u8], skip: &[u8], naming: Naming) -> Size
+    requires { ⌜ ShortRecords (now many) (now source) ⌝ }
+    ensures { λ r. ⌜ Sized (edited (namesOf (now (join .entry))) (namesOf (now (skip .entry))) naming (now (many .entry)) (now (source .entry))) r ⌝ }
+{
+    let s = edited_size(many, source, join, skip);
+    let n = naming_size(many, source, naming);
+    Size {
+        tags: s.tags,
+        bytes: n + 1 + s.bytes,
+    }
+}
+
+// Writes the edited record at its place, and gives the place behind it.
+pub fn set_tags<'a>(
+    out: &mut [u8],
+    at: usize,
+    many: &'a [u8],
+    source: &'a [u8],
+    join: &[u8],
+    skip: &[u8],
+    naming: Naming,
+) -> usize
+    requires short { ⌜ ShortRecords (now many) (now source) ⌝ }
+    requires few { ⌜ length (editedTags (namesOf (now join)) (namesOf (now skip)) (now many) (now source)) ≤ maxTags ⌝ }
+    requires room { ⌜ at + length (encode (edited (namesOf (now join)) (namesOf (now skip)) naming (now many) (now source))) ≤ length (now out) ⌝ }
+    ensures { λ r. ⌜ Put (now (out .entry)) at (encode (edited (namesOf (now (join .entry))) (namesOf (now (skip .entry))) naming (now (many .entry)) (now (source .entry)))) (now (out .exit)) r ⌝ }
+{
+    let s = edited_size(many, source, join, skip);
+    let n = s.tags;
+    let q = put_naming(out, at, many, source, naming);
+    let o = label_edits::put_byte(out, q, n as u8);
+    put_edited(out, o, many, source, join, skip)
 }
