@@ -12,8 +12,8 @@ use Rattle.model.specs.Labels.{Tag, sameBytes, sameTags}
 use Rattle.model.specs.Record.{encodeTags}
 use Rattle.model.specs.Edits.{Names}
 use Rattle.metric_name.specs.Cursors.{encodeTag, encode-tag}
-use Rattle.metric_name.specs.Keys.{hashBytes, hashOf, hash-append}
-use Rattle.metric_name.proofs.Keys.{same-tag}
+use Rattle.signature.specs.Keys.{hashBytes, hashOf, hash-append}
+use Rattle.signature.proofs.Keys.{same-tag}
 use Rattle.set_tags.specs.Streams.{editedTags, tagsLeft, tagsIn, WalkOf, Spans, FirstLies, EditedAt}
 use Rattle.set_tags.specs.Records.{ShortRecords}
 use Rattle.set_tags.proofs.Sizes.{edited-short}

@@ -7,8 +7,8 @@ ghost use lib.ListN.{length, take, drop};
 ghost use Rattle.model.specs.Laws.SetTags.{isSet, stays, stayingTags, setFrom};
 ghost use Rattle.model.specs.Limits.{maxTags};
 ghost use Rattle.model.specs.Labels.{sameTags};
-ghost use Rattle.metric_name.specs.Names.{namesOf};
-ghost use Rattle.metric_name.specs.Keys.{hashOf};
+ghost use Rattle.labels.specs.Names.{namesOf};
+ghost use Rattle.signature.specs.Keys.{hashOf};
 ghost use Rattle.metric_name.specs.Lenient.{labelsOf};
 ghost use Rattle.metric_name.specs.Cursors.{NextAt};
 ghost use Rattle.set_tags.specs.Streams.{Spans, WalkOf, EditedAt, editedTags};
@@ -23,13 +23,13 @@ use metric_name::Next;
 pub fn is_set(join: &[u8], skip: &[u8], label: &[u8]) -> bool
     ensures { λ r. ⌜ r ≡ isSet (namesOf (now (join .entry))) (namesOf (now (skip .entry))) (now (label .entry)) ⌝ }
 {
-    if metric_name::in_list(skip, label) {
+    if labels::in_list(skip, label) {
         return false;
     }
-    if metric_name::is_star(join) {
+    if labels::is_star(join) {
         return true;
     }
-    metric_name::in_list(join, label)
+    labels::in_list(join, label)
 }
 
 // Whether the many side's tag of a label stays.
@@ -37,12 +37,8 @@ pub fn is_staying(source: &[u8], join: &[u8], skip: &[u8], label: &[u8]) -> bool
     ensures { λ r. ⌜ r ≡ stays (namesOf (now (join .entry))) (namesOf (now (skip .entry))) (labelsOf (now (source .entry)) .tags) (now (label .entry)) ⌝ }
 {
     if is_set(join, skip, label) {
-        if metric_name::is_star(join) {
-            if metric_name::has_tag(source, label) {
-                false
-            } else {
-                true
-            }
+        if labels::is_star(join) {
+            metric_name::lacks_tag(source, label)
         } else {
             false
         }
@@ -174,7 +170,7 @@ pub fn next_edited(many: &[u8], source: &[u8], w: Walk, join: &[u8], skip: &[u8]
                 end: stop,
                 left: more,
             } => {
-                if metric_name::is_below(&many[key..key_end], &source[other..other_end]) {
+                if labels::is_below(&many[key..key_end], &source[other..other_end]) {
                     Edited::Tag {
                         sourced: false,
                         start,
@@ -275,7 +271,7 @@ pub fn same_edited<'a>(many: &'a [u8], a: &'a [u8], b: &'a [u8], join: &[u8], sk
                     end: stop,
                     rest: behind,
                 } => {
-                    if metric_name::same_bytes(
+                    if labels::same_bytes(
                         tag_bytes(many, a, sourced, start, end),
                         tag_bytes(many, b, other, begin, stop),
                     ) {
@@ -316,7 +312,7 @@ pub fn hash_edited<'a>(many: &'a [u8], source: &'a [u8], join: &[u8], skip: &[u8
         else {
             return h;
         };
-        h = metric_name::hash_bytes(h, tag_bytes(many, source, sourced, start, end));
+        h = signature::hash_bytes(h, tag_bytes(many, source, sourced, start, end));
         w = rest;
     }
 }
@@ -385,10 +381,10 @@ pub enum Naming {
 pub fn naming_of(join: &[u8], skip: &[u8], reset: bool) -> Naming
     ensures { λ r. ⌜ r ≡ namingOf (namesOf (now (join .entry))) (namesOf (now (skip .entry))) reset ⌝ }
 {
-    if metric_name::in_list(skip, b"__name__") {
+    if labels::in_list(skip, b"__name__") {
         return base_naming(reset);
     }
-    if metric_name::in_list(join, b"__name__") {
+    if labels::in_list(join, b"__name__") {
         return Naming::Source;
     }
     base_naming(reset)

@@ -1,17 +1,13 @@
 -- `set_tags::edited_size` meets its contract. Assumes nothing.
 use borrow.Author.Needs.{needs}
-use Rattle.metric_name.specs.Names.{namesOf}
-use Rattle.metric_name.specs.Keys.{hashOf}
+use Rattle.labels.specs.Names.{namesOf}
+use Rattle.signature.specs.Keys.{hashOf}
 use Rattle.model.specs.Labels.{sameTags}
 use Prim.Native.Nat.{_+_}
 use Rattle.set_tags.specs.Streams.{editedTags}
 use Rattle.set_tags.proofs.Loops.{SizeLeft, size-start, size-done, size-turn, tags-fit, bytes-fit, edit-order, edit-fewer}
 use Rattle.set_tags.proofs.edited_size.Statement.{statement}
 use Rattle.set_tags.proofs.edited_size.Tie as tie
-use Rattle.set_tags.proofs.edited_size.Reads as reads
-use Rattle.set_tags.proofs.edited_size.Lts as lts
-use Rattle.set_tags.proofs.next_edited.Reads as next-edited-reads
-use Rattle.set_tags.proofs.walk_of.Reads as walk-of-reads
 
 abbrev Inv-loop : tie.InvT-loop
 Inv-loop many source join skip w₀ tags₀ bytes₀ w tags bytes = SizeLeft (namesOf join) (namesOf skip) many source w tags bytes (editedTags (namesOf join) (namesOf skip) many source)

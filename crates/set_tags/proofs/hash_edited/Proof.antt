@@ -1,19 +1,13 @@
 -- `set_tags::hash_edited` meets its contract. Assumes nothing.
 use borrow.Author.Needs.{needs}
-use Rattle.metric_name.specs.Names.{namesOf}
-use Rattle.metric_name.specs.Keys.{hashOf}
+use Rattle.labels.specs.Names.{namesOf}
+use Rattle.signature.specs.Keys.{hashOf}
 use Rattle.model.specs.Labels.{sameTags}
 use Prim.Native.Nat.{_+_}
 use Rattle.set_tags.specs.Streams.{editedTags}
 use Rattle.set_tags.proofs.Loops.{HashLeft, hash-start, hash-done, hash-turn, edit-spans, edit-fewer}
 use Rattle.set_tags.proofs.hash_edited.Statement.{statement}
 use Rattle.set_tags.proofs.hash_edited.Tie as tie
-use Rattle.set_tags.proofs.hash_edited.Reads as reads
-use Rattle.set_tags.proofs.hash_edited.Lts as lts
-use Rattle.metric_name.proofs.hash_bytes.Reads as hash-bytes-reads
-use Rattle.set_tags.proofs.next_edited.Reads as next-edited-reads
-use Rattle.set_tags.proofs.tag_bytes.Reads as tag-bytes-reads
-use Rattle.set_tags.proofs.walk_of.Reads as walk-of-reads
 
 abbrev Inv-loop : tie.InvT-loop
 Inv-loop many source join skip w₀ h₀ w h = HashLeft (namesOf join) (namesOf skip) many source w h (hashOf (editedTags (namesOf join) (namesOf skip) many source))

@@ -3,10 +3,6 @@ use borrow.Author.Needs.{needs}
 use Rattle.set_tags.proofs.Tests.{skipped-unset, star-sets, listed-sets}
 use Rattle.set_tags.proofs.is_set.Statement.{statement}
 use Rattle.set_tags.proofs.is_set.Tie as tie
-use Rattle.set_tags.proofs.is_set.Reads as reads
-use Rattle.set_tags.proofs.is_set.Lts as lts
-use Rattle.metric_name.proofs.in_list.Reads as in-list-reads
-use Rattle.metric_name.proofs.is_star.Reads as is-star-reads
 
 in-list-requires : tie.Need-in-list-requires
 in-list-requires c κs = search needs

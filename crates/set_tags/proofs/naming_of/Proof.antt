@@ -3,10 +3,6 @@ use borrow.Author.Needs.{needs}
 use Rattle.set_tags.proofs.Names.{skipped-name, source-name, own-name}
 use Rattle.set_tags.proofs.naming_of.Statement.{statement}
 use Rattle.set_tags.proofs.naming_of.Tie as tie
-use Rattle.set_tags.proofs.naming_of.Reads as reads
-use Rattle.set_tags.proofs.naming_of.Lts as lts
-use Rattle.metric_name.proofs.in_list.Reads as in-list-reads
-use Rattle.set_tags.proofs.base_naming.Reads as base-naming-reads
 
 slice-aggregate-in-list : tie.Need-slice-aggregate-in-list
 slice-aggregate-in-list c = search needs

@@ -3,9 +3,6 @@ use borrow.Author.Needs.{needs}
 use Rattle.set_tags.proofs.Names.{nobody-size, many-size, source-size}
 use Rattle.set_tags.proofs.naming_size.Statement.{statement}
 use Rattle.set_tags.proofs.naming_size.Tie as tie
-use Rattle.set_tags.proofs.naming_size.Reads as reads
-use Rattle.set_tags.proofs.naming_size.Lts as lts
-use Rattle.label_edits.proofs.name_size.Reads as name-size-reads
 
 enum-told : tie.Need-enum-told
 enum-told c = search needs

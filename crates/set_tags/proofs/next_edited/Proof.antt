@@ -4,11 +4,6 @@ use Rattle.metric_name.proofs.Cursors.{key-order, key-within}
 use Rattle.set_tags.proofs.Walks.{none-left, many-alone, many-lower, source-alone, source-lower}
 use Rattle.set_tags.proofs.next_edited.Statement.{statement}
 use Rattle.set_tags.proofs.next_edited.Tie as tie
-use Rattle.set_tags.proofs.next_edited.Reads as reads
-use Rattle.set_tags.proofs.next_edited.Lts as lts
-use Rattle.metric_name.proofs.is_below.Reads as is-below-reads
-use Rattle.set_tags.proofs.next_set.Reads as next-set-reads
-use Rattle.set_tags.proofs.next_staying.Reads as next-staying-reads
 
 next-staying-requires : tie.Need-next-staying-requires
 next-staying-requires c κs = search needs

@@ -1,18 +1,12 @@
 -- `set_tags::put_edited` meets its contract. Assumes nothing.
 use borrow.Author.Needs.{needs}
-use Rattle.metric_name.specs.Names.{namesOf}
+use Rattle.labels.specs.Names.{namesOf}
 use Rattle.model.specs.Record.{encodeTags}
 use Prim.Native.Nat.{_+_}
 use Rattle.set_tags.specs.Streams.{editedTags}
 use Rattle.set_tags.proofs.Loops.{PutLeft, put-start, put-ended, one-room, put-one-tag, edit-spans, edit-fewer}
 use Rattle.set_tags.proofs.put_edited.Statement.{statement}
 use Rattle.set_tags.proofs.put_edited.Tie as tie
-use Rattle.set_tags.proofs.put_edited.Reads as reads
-use Rattle.set_tags.proofs.put_edited.Lts as lts
-use Rattle.label_edits.proofs.put_bytes.Reads as put-bytes-reads
-use Rattle.set_tags.proofs.next_edited.Reads as next-edited-reads
-use Rattle.set_tags.proofs.tag_bytes.Reads as tag-bytes-reads
-use Rattle.set_tags.proofs.walk_of.Reads as walk-of-reads
 
 abbrev Inv-loop : tie.InvT-loop
 Inv-loop out₀ at many source join skip w₀ o₀ out w o = PutLeft (namesOf join) (namesOf skip) many source w out₀ at (encodeTags (editedTags (namesOf join) (namesOf skip) many source)) out o

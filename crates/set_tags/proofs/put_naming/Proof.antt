@@ -3,10 +3,6 @@ use borrow.Author.Needs.{needs}
 use Rattle.set_tags.proofs.Names.{nobody-room, many-room, source-room, nobody-put, many-put, source-put}
 use Rattle.set_tags.proofs.put_naming.Statement.{statement}
 use Rattle.set_tags.proofs.put_naming.Tie as tie
-use Rattle.set_tags.proofs.put_naming.Reads as reads
-use Rattle.set_tags.proofs.put_naming.Lts as lts
-use Rattle.label_edits.proofs.put_byte.Reads as put-byte-reads
-use Rattle.label_edits.proofs.put_name.Reads as put-name-reads
 
 enum-told : tie.Need-enum-told
 enum-told c = search needs

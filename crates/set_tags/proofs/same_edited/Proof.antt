@@ -1,19 +1,13 @@
 -- `set_tags::same_edited` meets its contract. Assumes nothing.
 use borrow.Author.Needs.{needs}
-use Rattle.metric_name.specs.Names.{namesOf}
-use Rattle.metric_name.specs.Keys.{hashOf}
+use Rattle.labels.specs.Names.{namesOf}
+use Rattle.signature.specs.Keys.{hashOf}
 use Rattle.model.specs.Labels.{sameTags}
 use Prim.Native.Nat.{_+_}
 use Rattle.set_tags.specs.Streams.{editedTags}
 use Rattle.set_tags.proofs.Loops.{SameLeft, same-start, both-end, first-ends, second-ends, tags-differ, same-turn, edit-spans, edit-fewer}
 use Rattle.set_tags.proofs.same_edited.Statement.{statement}
 use Rattle.set_tags.proofs.same_edited.Tie as tie
-use Rattle.set_tags.proofs.same_edited.Reads as reads
-use Rattle.set_tags.proofs.same_edited.Lts as lts
-use Rattle.metric_name.proofs.same_bytes.Reads as same-bytes-reads
-use Rattle.set_tags.proofs.next_edited.Reads as next-edited-reads
-use Rattle.set_tags.proofs.tag_bytes.Reads as tag-bytes-reads
-use Rattle.set_tags.proofs.walk_of.Reads as walk-of-reads
 
 abbrev Inv-loop : tie.InvT-loop
 Inv-loop many a b join skip v₀ w₀ v w = SameLeft (namesOf join) (namesOf skip) many a b v w (sameTags (editedTags (namesOf join) (namesOf skip) many a) (editedTags (namesOf join) (namesOf skip) many b))

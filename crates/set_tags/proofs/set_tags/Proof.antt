@@ -4,12 +4,6 @@ use Rattle.label_edits.proofs.Puts.{record-name-room, record-count-room, record
 use Rattle.set_tags.proofs.Sizes.{few-fits}
 use Rattle.set_tags.proofs.set_tags.Statement.{statement}
 use Rattle.set_tags.proofs.set_tags.Tie as tie
-use Rattle.set_tags.proofs.set_tags.Reads as reads
-use Rattle.set_tags.proofs.set_tags.Lts as lts
-use Rattle.label_edits.proofs.put_byte.Reads as put-byte-reads
-use Rattle.set_tags.proofs.edited_size.Reads as edited-size-reads
-use Rattle.set_tags.proofs.put_edited.Reads as put-edited-reads
-use Rattle.set_tags.proofs.put_naming.Reads as put-naming-reads
 
 edited-size-requires : tie.Need-edited-size-requires
 edited-size-requires c κs = search needs

@@ -3,10 +3,6 @@ use borrow.Author.Needs.{needs}
 use Rattle.set_tags.proofs.Sizes.{name-fit, record-fit, record-sized}
 use Rattle.set_tags.proofs.set_tags_size.Statement.{statement}
 use Rattle.set_tags.proofs.set_tags_size.Tie as tie
-use Rattle.set_tags.proofs.set_tags_size.Reads as reads
-use Rattle.set_tags.proofs.set_tags_size.Lts as lts
-use Rattle.set_tags.proofs.edited_size.Reads as edited-size-reads
-use Rattle.set_tags.proofs.naming_size.Reads as naming-size-reads
 
 edited-size-requires : tie.Need-edited-size-requires
 edited-size-requires c κs = search needs

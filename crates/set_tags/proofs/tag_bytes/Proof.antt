@@ -3,8 +3,6 @@ use borrow.Author.Needs.{needs}
 use Rattle.set_tags.proofs.Walks.{source-within, many-within, source-bytes, many-bytes}
 use Rattle.set_tags.proofs.tag_bytes.Statement.{statement}
 use Rattle.set_tags.proofs.tag_bytes.Tie as tie
-use Rattle.set_tags.proofs.tag_bytes.Reads as reads
-use Rattle.set_tags.proofs.tag_bytes.Lts as lts
 
 sub-result : tie.Need-sub-result
 sub-result c = search needs

@@ -3,9 +3,6 @@ use borrow.Author.Needs.{needs}
 use Rattle.set_tags.proofs.Walks.{both-starts}
 use Rattle.set_tags.proofs.walk_of.Statement.{statement}
 use Rattle.set_tags.proofs.walk_of.Tie as tie
-use Rattle.set_tags.proofs.walk_of.Reads as reads
-use Rattle.set_tags.proofs.walk_of.Lts as lts
-use Rattle.metric_name.proofs.tags_of.Reads as tags-of-reads
 
 tags-of-requires : tie.Need-tags-of-requires
 tags-of-requires c κs = search needs
