@@ -28,7 +28,7 @@ use Rattle.plan.specs.Merging.{rowAt, RowMerge, row, failedAt, mergeGrou
 use Rattle.plan.specs.Conclude.{orElse, conclude}
 use Rattle.plan.specs.Pairs.{noLabels}
 use Rattle.plan.specs.Joins.{JoinSides, sameEditedBy, leadOf, leadsAmong, leadsOf, leadsClash, rowCode, leadRows, joinClash, joinRowsFrom, joinLabels, joinRow, joinSeries}
-use Rattle.plan.specs.Laws.Settling.{firstClash, goodSeries, firstOver, clash-gather, good-gather, clash-produced, good-produced, settled-concludes}
+use Rattle.plan.specs.Laws.Settling.{firstClash, goodSeries, clash-append, good-append, firstOver, clash-gather, good-gather, clash-produced, good-produced, settled-concludes}
 use Rattle.plan.specs.Laws.Keyed.{takesPart, Sees, EachSees, Numbers, kept-lefts, kept-rights, all-lefts, all-rights}
 use Rattle.plan.specs.Laws.Merging.{RowsAt, RowsAt-drop, mergedAs, noSeries, row-at, absorbed-group, absorbed-relabelled}
 use Rattle.plan.specs.Laws.Pairs.{labelsOfSide}
@@ -347,3 +347,114 @@ module _ (q : Query) (many : Side) (p : ℕ) (os : List Series) (ok : List ℕ) 
         closed : mergedAs (record { side = side; number = o }) (joinedLabels q ml (b .labels)) side (mergeGroup allowed p (readingsOf os) o (suc o) (drop (suc o) leads) (rowAt p (readingsOf os) o))
             ≡ mergedAs (record { side = side; number = o }) (joinedLabels q ml (b .labels)) side (mergeLead allowed p (readingsOf os) leads o)
         closed = unfold mergeLead in refl
+
+    -- what the pair at o emits
+    abbrev work : Series → Series
+    work = joinWork q many m
+
+    pair-clash : firstClash (mark (c .place) (groupOf allowed work cs c)) ≡ cond (eqb lead o) (clash side o (mergeLead allowed p (readingsOf os) leads o)) none
+    pair-clash =
+        cases (eqb lead o)
+        (λ e. rw (first-alike, e, group-merged (eqb-true lead o e)) (one-of (c .place) side o (joinedLabels q ml (b .labels)) work (mergeLead allowed p (readingsOf os) leads o)))
+        (λ e. rw (first-alike, e))
+
+    pair-good : cond (eqb lead o) (clash side o (mergeLead allowed p (readingsOf os) leads o)) none ≡ none
+        → goodSeries (mark (c .place) (groupOf allowed work cs c))
+        ≡ cond (eqb lead o) (work (record { labels = joinedLabels q ml (b .labels); row = rowOf (mergeLead allowed p (readingsOf os) leads o) }) ∷ []) []
+    pair-good n =
+        cases (eqb lead o)
+        (λ e. rw (first-alike, e, group-merged (eqb-true lead o e)) (good-of (c .place) side o (joinedLabels q ml (b .labels)) work (mergeLead allowed p (readingsOf os) leads o) (rw e at n)))
+        (λ e. rw (first-alike, e))
+
+  -- the pairs of m from a place on: those of the key k
+
+  abbrev emitsAt : Placed → List (Ranked Place Event)
+  emitsAt x = mark (x .place) (groupOf allowed (joinWork q many m) cs (editAs x))
+
+  record FromOne (xs : List ℕ) (bs : List Series) (i : ℕ) : Type 0 where
+    eachKey : (j : ℕ) → getD xs j 0 ≡ getD ok (i + j) 0
+    each : (j : ℕ) → getD bs j noSeries ≡ getD os (i + j) noSeries
+    size : i + length bs ≡ length os
+
+  next-one : (x : ℕ) (xs : List ℕ) (d : Series) (bs : List Series) (i : ℕ) → FromOne (x ∷ xs) (d ∷ bs) i → FromOne xs bs (suc i)
+  next-one x xs d bs i f =
+      record {
+        eachKey = λ j. f .eachKey (suc j) ∙ ap (λ n. getD ok n 0) (plus-suc j);
+        each = λ j. f .each (suc j) ∙ ap (λ n. getD os n noSeries) (plus-suc j);
+        size = omega (arith, f .size);
+      }
+    where
+      plus-suc : (j : ℕ) → i + suc j ≡ suc i + j
+      plus-suc j = omega arith
+
+  here-one : (x : ℕ) (xs : List ℕ) (d : Series) (bs : List Series) (i : ℕ) → FromOne (x ∷ xs) (d ∷ bs) i → (getD ok i 0 ≡ x) × (getD os i noSeries ≡ d)
+  here-one x xs d bs i f = let z : i + 0 ≡ i = omega arith in (sym (f .eachKey 0 ∙ ap (λ n. getD ok n 0) z), sym (f .each 0 ∙ ap (λ n. getD os n noSeries) z))
+
+  both-none : (o u : Option Duplicate) → orElse o u ≡ none → (o ≡ none) × (u ≡ none)
+  both-none none u e = (refl, e)
+  both-none (some d) u e = absurd (let z : _≡_ {A = ℕ} 0 1 = cc in omega arith)
+
+  leads-clash : (i : ℕ) (xs : List ℕ) (bs : List Series) → length xs ≡ length bs → FromOne xs bs i
+      → firstClash (gather emitsAt (keyed side k i xs bs)) ≡ leadsClash allowed p (readingsOf os) side leads i (leadsAmong q ml k ok ol xs (labelsOfSide bs))
+  unfolding keyed leadsClash leadsAmong
+  leads-clash i [] [] e f = refl
+  leads-clash i [] (d ∷ bs) e f = absurd (omega (arith, e))
+  leads-clash i (x ∷ xs) [] e f = absurd (omega (arith, e))
+  leads-clash i (x ∷ xs) (d ∷ bs) e f = go (leads-clash (suc i) xs bs (omega (arith, e)) (next-one x xs d bs i f)) (eqb x k) refl
+    where
+      here : (getD ok i 0 ≡ x) × (getD os i noSeries ≡ d)
+      here = here-one x xs d bs i f
+
+      within : i < length os
+      within = omega (arith, f .size)
+
+      first : eqb x k ≡ true → firstClash (emitsAt (record { place = record { side = side; number = i }; series = d }))
+          ≡ cond (eqb (leadOf q ml k (d .labels) 0 ok ol) i) (clash side i (mergeLead allowed p (readingsOf os) leads i)) none
+      first h = rw (← (here .1)) (pair-clash i within (here .0 ∙ eqb-true x k h))
+
+      go : firstClash (gather emitsAt (keyed side k (suc i) xs bs)) ≡ leadsClash allowed p (readingsOf os) side leads (suc i) (leadsAmong q ml k ok ol xs (labelsOfSide bs)) → (t : Bool) → eqb x k ≡ t
+          → firstClash (gather emitsAt (cond t (record { place = record { side = side; number = i }; series = d } ∷ keyed side k (suc i) xs bs) (keyed side k (suc i) xs bs)))
+          ≡ orElse (cond (eqb (cond t (leadOf q ml k (d .labels) 0 ok ol) dropped) i) (clash side i (mergeLead allowed p (readingsOf os) leads i)) none) (leadsClash allowed p (readingsOf os) side leads (suc i) (leadsAmong q ml k ok ol xs (labelsOfSide bs)))
+      go ih true h = clash-append (emitsAt (record { place = record { side = side; number = i }; series = d })) (gather emitsAt (keyed side k (suc i) xs bs)) ∙ rw (first h, ih)
+      go ih false h = rw (ne-eqb dropped i (λ g. omega (arith, g, within, same))) ih
+
+  module _ (mi : ℕ) (rowOfCode : ℕ → Series)
+      (known : (o : ℕ) → o < length os → rowOfCode (rowCode mi o) ≡ joinWork q many m (record { labels = joinedLabels q ml (getD os o noSeries .labels); row = rowOf (mergeLead allowed p (readingsOf os) leads o) })) where
+    leads-good : (i : ℕ) (xs : List ℕ) (bs : List Series) → length xs ≡ length bs → FromOne xs bs i
+        → leadsClash allowed p (readingsOf os) side leads i (leadsAmong q ml k ok ol xs (labelsOfSide bs)) ≡ none
+        → goodSeries (gather emitsAt (keyed side k i xs bs)) ≡ map rowOfCode (leadRows mi i (leadsAmong q ml k ok ol xs (labelsOfSide bs)))
+    unfolding keyed leadsClash leadsAmong leadRows
+    leads-good i [] [] e f n = refl
+    leads-good i [] (d ∷ bs) e f n = absurd (omega (arith, e))
+    leads-good i (x ∷ xs) [] e f n = absurd (omega (arith, e))
+    leads-good i (x ∷ xs) (d ∷ bs) e f n = go (leads-good (suc i) xs bs (omega (arith, e)) (next-one x xs d bs i f)) (eqb x k) refl n
+      where
+        here : (getD ok i 0 ≡ x) × (getD os i noSeries ≡ d)
+        here = here-one x xs d bs i f
+
+        within : i < length os
+        within = omega (arith, f .size)
+
+        Rest : Type 0
+        Rest = leadsClash allowed p (readingsOf os) side leads (suc i) (leadsAmong q ml k ok ol xs (labelsOfSide bs)) ≡ none
+            → goodSeries (gather emitsAt (keyed side k (suc i) xs bs)) ≡ map rowOfCode (leadRows mi (suc i) (leadsAmong q ml k ok ol xs (labelsOfSide bs)))
+
+        first : eqb x k ≡ true → cond (eqb (leadOf q ml k (d .labels) 0 ok ol) i) (clash side i (mergeLead allowed p (readingsOf os) leads i)) none ≡ none
+            → goodSeries (emitsAt (record { place = record { side = side; number = i }; series = d })) ≡ cond (eqb (leadOf q ml k (d .labels) 0 ok ol) i) (rowOfCode (rowCode mi i) ∷ []) []
+        first h n = rw (known i within, ← (here .1)) (pair-good i within (here .0 ∙ eqb-true x k h) (rw (here .1) n))
+
+        joinedUp : (t : Bool) (rest : List ℕ) → cond t (rowOfCode (rowCode mi i) ∷ []) [] ++ map rowOfCode rest ≡ map rowOfCode (cond t (rowCode mi i ∷ rest) rest)
+        joinedUp true rest = refl
+        joinedUp false rest = refl
+
+        go : Rest → (t : Bool) → eqb x k ≡ t
+            → orElse (cond (eqb (cond t (leadOf q ml k (d .labels) 0 ok ol) dropped) i) (clash side i (mergeLead allowed p (readingsOf os) leads i)) none) (leadsClash allowed p (readingsOf os) side leads (suc i) (leadsAmong q ml k ok ol xs (labelsOfSide bs))) ≡ none
+            → goodSeries (gather emitsAt (cond t (record { place = record { side = side; number = i }; series = d } ∷ keyed side k (suc i) xs bs) (keyed side k (suc i) xs bs)))
+            ≡ map rowOfCode (cond (eqb (cond t (leadOf q ml k (d .labels) 0 ok ol) dropped) i) (rowCode mi i ∷ leadRows mi (suc i) (leadsAmong q ml k ok ol xs (labelsOfSide bs))) (leadRows mi (suc i) (leadsAmong q ml k ok ol xs (labelsOfSide bs))))
+        go ih true h n =
+            let z = both-none _ _ n in
+            good-append (emitsAt (record { place = record { side = side; number = i }; series = d })) (gather emitsAt (keyed side k (suc i) xs bs)) ∙ rw (first h (z .0), ih (z .1))
+            (joinedUp (eqb (leadOf q ml k (d .labels) 0 ok ol) i) (leadRows mi (suc i) (leadsAmong q ml k ok ol xs (labelsOfSide bs))))
+        go ih false h n =
+            let away = ne-eqb dropped i (λ g. omega (arith, g, within, same)) in
+            rw away (ih (rw away at n))
