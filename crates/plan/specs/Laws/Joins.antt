@@ -458,3 +458,105 @@ module _ (q : Query) (many : Side) (p : ℕ) (os : List Series) (ok : List ℕ) 
         go ih false h n =
             let away = ne-eqb dropped i (λ g. omega (arith, g, within, same)) in
             rw away (ih (rw away at n))
+
+-- all many-side series
+
+code-many : (m o : ℕ) → o < 512 → rowCode m o / 512 ≡ m
+code-many m o h = omega arith
+
+code-one : (m o : ℕ) → o < 512 → rowCode m o % 512 ≡ o
+code-one m o h = omega arith
+
+module _ (q : Query) (many : Side) (p : ℕ) (bs : List Series) (mk : List ℕ) (os : List Series) (ok : List ℕ) (sameMany : length mk ≡ length bs) (same : length ok ≡ length os) (few : length ok ≤ 512)
+    (rowsMany : RowsAt p (readingsOf bs) 0 bs) (rowsOne : RowsAt p (readingsOf os) 0 os) where
+  abbrev sides : JoinSides
+  sides =
+      record {
+        points = p; manyLabels = labelsOfSide bs; manyKeys = mk; manyRows = readingsOf bs;
+        oneLabels = labelsOfSide os; oneKeys = ok; oneRows = readingsOf os;
+      }
+
+  abbrev leadsFor : Series → ℕ → List ℕ
+  leadsFor b k = leadsOf q (b .labels) k ok (labelsOfSide os)
+
+  abbrev clashFor : Series → ℕ → Option Duplicate
+  clashFor b k = leadsClash (allowedOverlaps q) p (readingsOf os) (other many) (leadsFor b k) 0 (leadsFor b k)
+
+  series-known : (b : Series) (i k : ℕ) → i < length bs → getD bs i noSeries ≡ b → getD mk i 0 ≡ k → (o : ℕ) → o < length os
+      → joinSeries q many sides (rowCode i o)
+      ≡ joinWork q many b (record { labels = joinedLabels q (b .labels) (getD os o noSeries .labels); row = rowOf (mergeLead (allowedOverlaps q) p (readingsOf os) (leadsFor b k) o) })
+  unfolding joinSeries joinLabels joinRow joinWork
+  series-known b i k w hb hk o ho =
+      let small : o < 512 = omega (arith, ho, same) in
+      let labels : getD (labelsOfSide bs) i noLabels ≡ b .labels = getD-labelled bs i ∙ ap (λ d. d .labels) hb in
+      let stands : rowAt p (readingsOf bs) i ≡ b .row = sym (ap (rowAt p (readingsOf bs)) (zero-plus i)) ∙ row-at p (readingsOf bs) 0 bs rowsMany i w ∙ ap (λ d. d .row) hb in
+      rw (code-many i o small, code-one i o small, labels, hk, stands, getD-labelled os o)
+
+  -- what a many-side series b of the number k at the place i must emit
+  record EmitsJoin (f : Placed → List (Ranked Rank Event)) (b : Series) (i k : ℕ) : Type 0 where
+    clashes : firstClash (f (record { place = record { side = many; number = i }; series = b })) ≡ cond (eqb k dropped) none (clashFor b k)
+    answers : cond (eqb k dropped) none (clashFor b k) ≡ none
+        → goodSeries (f (record { place = record { side = many; number = i }; series = b })) ≡ map (joinSeries q many sides) (cond (eqb k dropped) [] (leadRows i 0 (leadsFor b k)))
+
+  EachJoin : (Placed → List (Ranked Rank Event)) → ℕ → List Series → List ℕ → Type 0
+  EachJoin f i [] [] = Unit {0}
+  EachJoin f i [] (k ∷ xs) = ⊥
+  EachJoin f i (b ∷ cs) [] = ⊥
+  EachJoin f i (b ∷ cs) (k ∷ xs) = EmitsJoin f b i k × EachJoin f (suc i) cs xs
+
+  module _ (f : Placed → List (Ranked Rank Event)) where
+    manys-clash : (i : ℕ) (g : ℕ → ℕ) (cs : List Series) (xs : List ℕ) → ((j : ℕ) → g j ≡ i + j) → EachJoin f i cs xs
+        → firstOver (λ x. firstClash (f x)) (numbered many g cs) ≡ joinClash q many sides xs (labelsOfSide cs)
+    unfolding joinClash EachJoin
+    manys-clash i g [] [] h e = refl
+    manys-clash i g [] (k ∷ xs) h e = absurd e
+    manys-clash i g (b ∷ cs) [] h e = absurd e
+    manys-clash i g (b ∷ cs) (k ∷ xs) h e =
+        let first : g zero ≡ i = h zero ∙ (omega arith) in
+        rw (first, e .0 .clashes, manys-clash (suc i) (λ j. g (suc j)) cs xs (λ j. h (suc j) ∙ (omega arith)) (e .1))
+
+    none-both : (o u : Option Duplicate) → orElse o u ≡ none → (o ≡ none) × (u ≡ none)
+    none-both none u e = (refl, e)
+    none-both (some d) u e = absurd (let z : _≡_ {A = ℕ} 0 1 = cc in omega arith)
+
+    map-append : (xs ys : List ℕ) → map (joinSeries q many sides) (xs ++ ys) ≡ map (joinSeries q many sides) xs ++ map (joinSeries q many sides) ys
+    map-append [] ys = refl
+    map-append (x ∷ xs) ys = ap (λ l. joinSeries q many sides x ∷ l) (map-append xs ys)
+
+    manys-good : (i : ℕ) (g : ℕ → ℕ) (cs : List Series) (xs : List ℕ) → ((j : ℕ) → g j ≡ i + j) → EachJoin f i cs xs → joinClash q many sides xs (labelsOfSide cs) ≡ none
+        → gather (λ x. goodSeries (f x)) (numbered many g cs) ≡ map (joinSeries q many sides) (joinRowsFrom q sides i xs (labelsOfSide cs))
+    unfolding joinClash joinRowsFrom EachJoin
+    manys-good i g [] [] h e n = refl
+    manys-good i g [] (k ∷ xs) h e n = absurd e
+    manys-good i g (b ∷ cs) [] h e n = absurd e
+    manys-good i g (b ∷ cs) (k ∷ xs) h e n =
+        let first : g zero ≡ i = h zero ∙ (omega arith) in
+        let z = none-both (cond (eqb k dropped) none (clashFor b k)) (joinClash q many sides xs (labelsOfSide cs)) n in
+        rw (first, e .0 .answers (z .0), manys-good (suc i) (λ j. g (suc j)) cs xs (λ j. h (suc j) ∙ (omega arith)) (e .1) (z .1))
+        (sym (map-append (cond (eqb k dropped) [] (leadRows i 0 (leadsFor b k))) (joinRowsFrom q sides (suc i) xs (labelsOfSide cs))))
+
+  -- a series of the rule, by what it sees of the one side
+
+  abbrev rule : Rule
+  rule = joined (allowedOverlaps q) (joinedPair q) (joinWork q many) many
+
+  on-same : (s : Side) → onSide s s ≡ true
+  on-same left = refl
+  on-same right = refl
+
+  groups-are : (b : Series) (k : ℕ) → groups (allowedOverlaps q) (joinWork q many b) (pairs (joinedPair q) b (keyed (other many) k 0 ok os)) ≡ gather (emitsAt q many p os ok same few rowsOne b k) (keyed (other many) k 0 ok os)
+  unfolding groups
+  groups-are b k = gather-map (λ c. mark (c .place) (groupOf (allowedOverlaps q) (joinWork q many b) (pairs (joinedPair q) b (keyed (other many) k 0 ok os)) c)) (λ x. record { place = x .place; series = joinedPair q b (x .series) }) (keyed (other many) k 0 ok os)
+
+  whole-one : (b : Series) (k : ℕ) → FromOne q many p os ok same few rowsOne b k ok os 0
+  whole-one b k = record { eachKey = λ j. ap (λ n. getD ok n 0) (sym (zero-plus j)); each = λ j. ap (λ n. getD os n noSeries) (sym (zero-plus j)); size = omega arith }
+
+  taking-clash : (b : Series) (i k : ℕ) (xs : List Placed) → ofSide (other many) xs ≡ keyed (other many) k 0 ok os
+      → firstClash (rule (record { place = record { side = many; number = i }; series = b }) xs) ≡ clashFor b k
+  taking-clash b i k xs h = rw (on-same many, h, groups-are b k) (leads-clash q many p os ok same few rowsOne b k 0 ok os same (whole-one b k))
+
+  taking-good : (b : Series) (i k : ℕ) (xs : List Placed) → i < length bs → getD bs i noSeries ≡ b → getD mk i 0 ≡ k → ofSide (other many) xs ≡ keyed (other many) k 0 ok os → clashFor b k ≡ none
+      → goodSeries (rule (record { place = record { side = many; number = i }; series = b }) xs) ≡ map (joinSeries q many sides) (leadRows i 0 (leadsFor b k))
+  taking-good b i k xs w hb hk h n =
+      rw (on-same many, h, groups-are b k)
+      (leads-good q many p os ok same few rowsOne b k i (joinSeries q many sides) (series-known b i k w hb hk) 0 ok os same (whole-one b k) n)
