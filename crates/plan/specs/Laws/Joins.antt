@@ -472,8 +472,13 @@ module _ (q : Query) (many : Side) (p : ℕ) (bs : List Series) (mk : List ℕ) 
   abbrev sides : JoinSides
   sides =
       record {
-        points = p; manyLabels = labelsOfSide bs; manyKeys = mk; manyRows = readingsOf bs;
-        oneLabels = labelsOfSide os; oneKeys = ok; oneRows = readingsOf os;
+        points = p;
+        manyLabels = labelsOfSide bs;
+        manyKeys = mk;
+        manyRows = readingsOf bs;
+        oneLabels = labelsOfSide os;
+        oneKeys = ok;
+        oneRows = readingsOf os;
       }
 
   abbrev leadsFor : Series → ℕ → List ℕ
@@ -560,3 +565,214 @@ module _ (q : Query) (many : Side) (p : ℕ) (bs : List Series) (mk : List ℕ) 
   taking-good b i k xs w hb hk h n =
       rw (on-same many, h, groups-are b k)
       (leads-good q many p os ok same few rowsOne b k i (joinSeries q many sides) (series-known b i k w hb hk) 0 ok os same (whole-one b k) n)
+
+  record FromMany (cs : List Series) (xs : List ℕ) (i : ℕ) : Type 0 where
+    eachKey : (j : ℕ) → getD xs j 0 ≡ getD mk (i + j) 0
+    each : (j : ℕ) → getD cs j noSeries ≡ getD bs (i + j) noSeries
+    size : i + length cs ≡ length bs
+
+  whole-many : FromMany bs mk 0
+  whole-many = record { eachKey = λ j. ap (λ n. getD mk n 0) (sym (zero-plus j)); each = λ j. ap (λ n. getD bs n noSeries) (sym (zero-plus j)); size = omega arith }
+
+  next-many : (d : Series) (cs : List Series) (x : ℕ) (xs : List ℕ) (i : ℕ) → FromMany (d ∷ cs) (x ∷ xs) i → FromMany cs xs (suc i)
+  next-many d cs x xs i f =
+      record {
+        eachKey = λ j. f .eachKey (suc j) ∙ ap (λ n. getD mk n 0) (plus-suc j);
+        each = λ j. f .each (suc j) ∙ ap (λ n. getD bs n noSeries) (plus-suc j);
+        size = omega (arith, f .size);
+      }
+    where
+      plus-suc : (j : ℕ) → i + suc j ≡ suc i + j
+      plus-suc j = omega arith
+
+  here-many : (d : Series) (cs : List Series) (x : ℕ) (xs : List ℕ) (i : ℕ) → FromMany (d ∷ cs) (x ∷ xs) i → (getD mk i 0 ≡ x) × (getD bs i noSeries ≡ d)
+  here-many d cs x xs i f = let z : i + 0 ≡ i = omega arith in (sym (f .eachKey 0 ∙ ap (λ n. getD mk n 0) z), sym (f .each 0 ∙ ap (λ n. getD bs n noSeries) z))
+
+  not-so : (t : Bool) → true ≡ not t → t ≡ false
+  not-so true e = e
+  not-so false e = refl
+
+  is-so : (t : Bool) → false ≡ not t → t ≡ true
+  is-so true e = refl
+  is-so false e = e
+
+  -- the two kinds of query, over the sides of a call
+  module _ (ls rs : List Series) (ks ms : List ℕ) where
+    module _ (sees : (b : Series) (k : ℕ) → Sees q false ls rs ks ms b k → ofSide (other many) (ofKey q (b .labels) (placed ls rs)) ≡ keyed (other many) k 0 ok os) where
+      comparison-emits : (b : Series) (i k : ℕ) → i < length bs → getD bs i noSeries ≡ b → getD mk i 0 ≡ k → Sees q false ls rs ks ms b k → EmitsJoin (emission q rule (placed ls rs)) b i k
+      comparison-emits b i k w hb hk s =
+          let part : eqb k dropped ≡ false = not-so (eqb k dropped) (s .takes) in
+          let here : Placed = record { place = record { side = many; number = i }; series = b } in
+          let seen = ofKey q (b .labels) (placed ls rs) in
+          record {
+            clashes = clash-produced (here .place) (rule here seen) ∙ taking-clash b i k seen (sees b k s) ∙ rw part;
+            answers = λ n. good-produced (here .place) (rule here seen) ∙ taking-good b i k seen w hb hk (sees b k s) (rw part at n) ∙ rw part;
+          }
+
+      each-comparison : (i : ℕ) (cs : List Series) (xs : List ℕ) → FromMany cs xs i → EachSees (Sees q false ls rs ks ms) cs xs → EachJoin (emission q rule (placed ls rs)) i cs xs
+      unfolding EachJoin
+      each-comparison i [] [] f e = tt
+      each-comparison i [] (k ∷ xs) f e = e
+      each-comparison i (b ∷ cs) [] f e = e
+      each-comparison i (b ∷ cs) (k ∷ xs) f e =
+          let h = here-many b cs k xs i f in
+          (comparison-emits b i k (omega (arith, f .size)) (h .1) (h .0) (e .0), each-comparison (suc i) cs xs (next-many b cs k xs i f) (e .1))
+
+    module _ (sees : (b : Series) (k : ℕ) → Sees q true ls rs ks ms b k → hasReadings b ≡ true
+        → ofSide (other many) (keep (λ x. hasReadings (x .series)) (ofKey q (b .labels) (placed ls rs))) ≡ keyed (other many) k 0 ok os) where
+      arithmetic-emits : (b : Series) (i k : ℕ) → i < length bs → getD bs i noSeries ≡ b → getD mk i 0 ≡ k → Sees q true ls rs ks ms b k → EmitsJoin (emission q (dropping rule) (placed ls rs)) b i k
+      arithmetic-emits b i k w hb hk s = go (hasReadings b) refl
+        where
+          here : Placed
+          here = record { place = record { side = many; number = i }; series = b }
+
+          seen : List Placed
+          seen = keep (λ x. hasReadings (x .series)) (ofKey q (b .labels) (placed ls rs))
+
+          go : (t : Bool) → hasReadings b ≡ t → EmitsJoin (emission q (dropping rule) (placed ls rs)) b i k
+          go true h =
+              let part : eqb k dropped ≡ false = not-so (eqb k dropped) (sym h ∙ s .takes) in
+              record {
+                clashes = clash-produced (here .place) (dropping rule here (ofKey q (b .labels) (placed ls rs))) ∙ rw h (taking-clash b i k seen (sees b k s h) ∙ rw part);
+                answers = λ n. good-produced (here .place) (dropping rule here (ofKey q (b .labels) (placed ls rs))) ∙ rw h (taking-good b i k seen w hb hk (sees b k s h) (rw part at n) ∙ rw part);
+              }
+          go false h =
+              let out : eqb k dropped ≡ true = is-so (eqb k dropped) (sym h ∙ s .takes) in
+              record { clashes = rw (h, out); answers = λ n. rw (h, out) }
+
+      each-arithmetic : (i : ℕ) (cs : List Series) (xs : List ℕ) → FromMany cs xs i → EachSees (Sees q true ls rs ks ms) cs xs → EachJoin (emission q (dropping rule) (placed ls rs)) i cs xs
+      unfolding EachJoin
+      each-arithmetic i [] [] f e = tt
+      each-arithmetic i [] (k ∷ xs) f e = e
+      each-arithmetic i (b ∷ cs) [] f e = e
+      each-arithmetic i (b ∷ cs) (k ∷ xs) f e =
+          let h = here-many b cs k xs i f in
+          (arithmetic-emits b i k (omega (arith, f .size)) (h .1) (h .0) (e .0), each-arithmetic (suc i) cs xs (next-many b cs k xs i f) (e .1))
+
+  -- series of the one side emit nothing
+
+  other-silent : (s : Side) → onSide many s ≡ false → (n : ℕ) (b : Series) (xs : List Placed) → rule (record { place = record { side = s; number = n }; series = b }) xs ≡ []
+  other-silent s h n b xs = rw h
+
+  module _ (f : Placed → List (Ranked Rank Event)) (s : Side) (silent : (n : ℕ) (b : Series) → f (record { place = record { side = s; number = n }; series = b }) ≡ []) where
+    silent-clash : (g : ℕ → ℕ) (cs : List Series) → firstOver (λ x. firstClash (f x)) (numbered s g cs) ≡ none
+    silent-clash g [] = refl
+    silent-clash g (b ∷ cs) = rw (silent (g zero) b, silent-clash (λ j. g (suc j)) cs)
+
+    silent-good : (g : ℕ → ℕ) (cs : List Series) → gather (λ x. goodSeries (f x)) (numbered s g cs) ≡ []
+    silent-good g [] = refl
+    silent-good g (b ∷ cs) = rw (silent (g zero) b, silent-good (λ j. g (suc j)) cs)
+
+  -- what the series of a call emit in all, where those of the many side are as above and the others silent
+  record Emits (xs : List Placed) (f : Placed → List (Ranked Rank Event)) : Type 0 where
+    clashes : firstClash (gather f xs) ≡ joinClash q many sides mk (labelsOfSide bs)
+    answers : joinClash q many sides mk (labelsOfSide bs) ≡ none → goodSeries (gather f xs) ≡ map (joinSeries q many sides) (joinRowsFrom q sides 0 mk (labelsOfSide bs))
+
+  first-append : (f : Placed → List (Ranked Rank Event)) (xs ys : List Placed)
+      → firstOver (λ x. firstClash (f x)) (xs ++ ys) ≡ orElse (firstOver (λ x. firstClash (f x)) xs) (firstOver (λ x. firstClash (f x)) ys)
+  first-append f [] ys = refl
+  first-append f (x ∷ xs) ys = rw (first-append f xs ys) (or-assoc (firstClash (f x)) _ _)
+    where
+      or-assoc : (o u v : Option Duplicate) → orElse o (orElse u v) ≡ orElse (orElse o u) v
+      or-assoc none u v = refl
+      or-assoc (some d) u v = refl
+
+  or-none : (o : Option Duplicate) → orElse o none ≡ o
+  or-none none = refl
+  or-none (some d) = refl
+
+  nil-right : (xs : List Series) → xs ++ [] ≡ xs
+  nil-right [] = refl
+  nil-right (x ∷ xs) = ap (λ l. x ∷ l) (nil-right xs)
+
+  module _ (f : Placed → List (Ranked Rank Event)) (each : EachJoin f 0 bs mk) (s : Side) (silent : (n : ℕ) (b : Series) → f (record { place = record { side = s; number = n }; series = b }) ≡ []) where
+    many-first : (cs : List Series) → Emits (numbered many (λ i. i) bs ++ numbered s (λ i. i) cs) f
+    many-first cs =
+        record {
+          clashes =
+              clash-gather f (numbered many (λ i. i) bs ++ numbered s (λ i. i) cs) ∙ first-append f (numbered many (λ i. i) bs) (numbered s (λ i. i) cs)
+              ∙ rw (manys-clash f 0 (λ i. i) bs mk (λ j. omega arith) each, silent-clash f s silent (λ i. i) cs) (or-none (joinClash q many sides mk (labelsOfSide bs)));
+          answers = λ n.
+              good-gather f (numbered many (λ i. i) bs ++ numbered s (λ i. i) cs) ∙ gather-append (λ x. goodSeries (f x)) (numbered many (λ i. i) bs) (numbered s (λ i. i) cs)
+              ∙ rw (manys-good f 0 (λ i. i) bs mk (λ j. omega arith) each n, silent-good f s silent (λ i. i) cs) (nil-right (map (joinSeries q many sides) (joinRowsFrom q sides 0 mk (labelsOfSide bs))));
+        }
+
+    many-last : (cs : List Series) → Emits (numbered s (λ i. i) cs ++ numbered many (λ i. i) bs) f
+    many-last cs =
+        record {
+          clashes =
+              clash-gather f (numbered s (λ i. i) cs ++ numbered many (λ i. i) bs) ∙ first-append f (numbered s (λ i. i) cs) (numbered many (λ i. i) bs)
+              ∙ rw (silent-clash f s silent (λ i. i) cs) (manys-clash f 0 (λ i. i) bs mk (λ j. omega arith) each);
+          answers = λ n.
+              good-gather f (numbered s (λ i. i) cs ++ numbered many (λ i. i) bs) ∙ gather-append (λ x. goodSeries (f x)) (numbered s (λ i. i) cs) (numbered many (λ i. i) bs)
+              ∙ rw (silent-good f s silent (λ i. i) cs) (manys-good f 0 (λ i. i) bs mk (λ j. omega arith) each n);
+        }
+
+  emits-conclude : (labelRoom room : ℕ) (shape : Shape) (xs : List Placed) (f : Placed → List (Ranked Rank Event)) → Emits xs f
+      → concluded labelRoom room shape (settle (gather f xs)) ≡ conclude labelRoom room shape (joinClash q many sides mk (labelsOfSide bs)) (map (joinSeries q many sides) (joinRowsFrom q sides 0 mk (labelsOfSide bs)))
+  emits-conclude a b shape xs f e =
+      settled-concludes a b shape (gather f xs) ∙ ap (λ o. conclude a b shape o (goodSeries (gather f xs))) (e .clashes) ∙ go (joinClash q many sides mk (labelsOfSide bs)) refl
+    where
+      go : (o : Option Duplicate) → joinClash q many sides mk (labelsOfSide bs) ≡ o
+          → conclude a b shape o (goodSeries (gather f xs)) ≡ conclude a b shape o (map (joinSeries q many sides) (joinRowsFrom q sides 0 mk (labelsOfSide bs)))
+      go none h = ap (conclude a b shape none) (e .answers h)
+      go (some d) h = refl
+
+-- the law: a join concludes by its leaders, group_left
+
+module _ (q : Query) (p : ℕ) (ls rs : List Series) (ks ms : List ℕ) (sameLeft : length ks ≡ length ls) (sameRight : length ms ≡ length rs)
+    (rowsLeft : RowsAt p (readingsOf ls) 0 ls) (rowsRight : RowsAt p (readingsOf rs) 0 rs) (labelRoom room : ℕ) (shape : Shape) where
+  module _ (few : length ms ≤ 512) (hj : q .join ≡ group left) where
+    abbrev leftSides : JoinSides
+    leftSides =
+        record { points = p; manyLabels = labelsOfSide ls; manyKeys = ks; manyRows = readingsOf ls; oneLabels = labelsOfSide rs; oneKeys = ms; oneRows = readingsOf rs }
+
+    pub comparison-joins-left : (c : Comparison) → kindOf (q .operator) ≡ comparison c → Numbers q false ls rs ks ms
+        → concluded labelRoom room shape (verdict q ls rs) ≡ conclude labelRoom room shape (joinClash q left leftSides ks (labelsOfSide ls)) (map (joinSeries q left leftSides) (joinRowsFrom q leftSides 0 ks (labelsOfSide ls)))
+    unfolding verdict
+    comparison-joins-left c hk n =
+        ap (λ o. concluded labelRoom room shape (settle (events q (ruleOf q o (look o ls rs)) (placed ls rs)))) hk
+        ∙ ap (λ j. concluded labelRoom room shape (settle (events q (matchedRule q j) (placed ls rs)))) hj
+        ∙ emits-conclude q left p ls ks rs ms sameLeft sameRight few rowsLeft rowsRight labelRoom room shape (placed ls rs) _
+        (many-first q left p ls ks rs ms sameLeft sameRight few rowsLeft rowsRight _
+        (each-comparison q left p ls ks rs ms sameLeft sameRight few rowsLeft rowsRight ls rs ks ms (λ b k s. all-rights q ls rs ks ms b k s) 0 ls ks (whole-many q left p ls ks rs ms sameLeft sameRight few rowsLeft rowsRight) (n .ofLefts))
+        right (λ i b. refl) rs)
+
+    pub arithmetic-joins-left : (c : Arithmetic) → kindOf (q .operator) ≡ arithmetic c → Numbers q true ls rs ks ms
+        → concluded labelRoom room shape (verdict q ls rs) ≡ conclude labelRoom room shape (joinClash q left leftSides ks (labelsOfSide ls)) (map (joinSeries q left leftSides) (joinRowsFrom q leftSides 0 ks (labelsOfSide ls)))
+    unfolding verdict
+    arithmetic-joins-left c hk n =
+        ap (λ o. concluded labelRoom room shape (settle (events q (ruleOf q o (look o ls rs)) (placed ls rs)))) hk
+        ∙ ap (λ j. concluded labelRoom room shape (settle (events q (dropping (matchedRule q j)) (placed ls rs)))) hj
+        ∙ emits-conclude q left p ls ks rs ms sameLeft sameRight few rowsLeft rowsRight labelRoom room shape (placed ls rs) _
+        (many-first q left p ls ks rs ms sameLeft sameRight few rowsLeft rowsRight _
+        (each-arithmetic q left p ls ks rs ms sameLeft sameRight few rowsLeft rowsRight ls rs ks ms (λ b k s h. kept-rights q ls rs ks ms b k s h) 0 ls ks (whole-many q left p ls ks rs ms sameLeft sameRight few rowsLeft rowsRight) (n .ofLefts))
+        right (λ i b. cases (hasReadings b) (λ e. rw e) (λ e. rw e)) rs)
+
+  -- and group_right
+  module _ (few : length ks ≤ 512) (hj : q .join ≡ group right) where
+    abbrev rightSides : JoinSides
+    rightSides =
+        record { points = p; manyLabels = labelsOfSide rs; manyKeys = ms; manyRows = readingsOf rs; oneLabels = labelsOfSide ls; oneKeys = ks; oneRows = readingsOf ls }
+
+    pub comparison-joins-right : (c : Comparison) → kindOf (q .operator) ≡ comparison c → Numbers q false ls rs ks ms
+        → concluded labelRoom room shape (verdict q ls rs) ≡ conclude labelRoom room shape (joinClash q right rightSides ms (labelsOfSide rs)) (map (joinSeries q right rightSides) (joinRowsFrom q rightSides 0 ms (labelsOfSide rs)))
+    unfolding verdict
+    comparison-joins-right c hk n =
+        ap (λ o. concluded labelRoom room shape (settle (events q (ruleOf q o (look o ls rs)) (placed ls rs)))) hk
+        ∙ ap (λ j. concluded labelRoom room shape (settle (events q (matchedRule q j) (placed ls rs)))) hj
+        ∙ emits-conclude q right p rs ms ls ks sameRight sameLeft few rowsRight rowsLeft labelRoom room shape (placed ls rs) _
+        (many-last q right p rs ms ls ks sameRight sameLeft few rowsRight rowsLeft _
+        (each-comparison q right p rs ms ls ks sameRight sameLeft few rowsRight rowsLeft ls rs ks ms (λ b k s. all-lefts q ls rs ks ms b k s) 0 rs ms (whole-many q right p rs ms ls ks sameRight sameLeft few rowsRight rowsLeft) (n .ofRights))
+        left (λ i b. refl) ls)
+
+    pub arithmetic-joins-right : (c : Arithmetic) → kindOf (q .operator) ≡ arithmetic c → Numbers q true ls rs ks ms
+        → concluded labelRoom room shape (verdict q ls rs) ≡ conclude labelRoom room shape (joinClash q right rightSides ms (labelsOfSide rs)) (map (joinSeries q right rightSides) (joinRowsFrom q rightSides 0 ms (labelsOfSide rs)))
+    unfolding verdict
+    arithmetic-joins-right c hk n =
+        ap (λ o. concluded labelRoom room shape (settle (events q (ruleOf q o (look o ls rs)) (placed ls rs)))) hk
+        ∙ ap (λ j. concluded labelRoom room shape (settle (events q (dropping (matchedRule q j)) (placed ls rs)))) hj
+        ∙ emits-conclude q right p rs ms ls ks sameRight sameLeft few rowsRight rowsLeft labelRoom room shape (placed ls rs) _
+        (many-last q right p rs ms ls ks sameRight sameLeft few rowsRight rowsLeft _
+        (each-arithmetic q right p rs ms ls ks sameRight sameLeft few rowsRight rowsLeft ls rs ks ms (λ b k s h. kept-lefts q ls rs ks ms b k s h) 0 rs ms (whole-many q right p rs ms ls ks sameRight sameLeft few rowsRight rowsLeft) (n .ofRights))
+        left (λ i b. cases (hasReadings b) (λ e. rw e) (λ e. rw e)) ls)
