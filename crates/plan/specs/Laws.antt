@@ -4,3 +4,4 @@ pub mod Merging
 pub mod Pairs
 pub mod Sets
 pub mod Joins
+pub mod Numbers

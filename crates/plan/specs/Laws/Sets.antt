@@ -20,7 +20,7 @@ use Rattle.model.specs.Vector.{Series, Shape, readingsOf}
 use Rattle.semantics.specs.Places.{Place, Placed, Rank, numbered, placed}
 use Rattle.semantics.specs.Events.{Duplicate, Event, good, bad, Ranked, mark, Rule, ofKey, producedBy, emission, events, settle}
 use Rattle.semantics.specs.Rules.{plain, ofSide, optional, leftResult, rightResult, setRuleOf}
-use Rattle.semantics.specs.Binop.{Found, firstReading, isFound, someReading, filledFrom, setReading, pointwise, unlessOnlyMissing, staying, met, alone, adds, Seen, scalarSide, look, unmatched, setRuleBy, ruleOf}
+use Rattle.semantics.specs.Binop.{Found, firstReading, isFound, someReading, filledFrom, setReading, pointwise, unlessOnlyMissing, staying, met, alone, adds, Seen, isBare, scalarSide, look, unmatched, setRuleBy, ruleOf}
 use Rattle.semantics.specs.Call.{concluded, verdict}
 use Rattle.plan.specs.Keys.{firstOf, keyed}
 use Rattle.plan.specs.Merging.{rowAt}
@@ -343,3 +343,50 @@ module _ (q : Query) (rule : SetRule) (p : ℕ) (ls rs : List Series) (ks ms : L
       ∙ rw (lefts-series 0 (λ i. i) ls ks (λ j. omega arith) (from-all noSeries ls) (from-all 0 ks) (n .ofLefts), rights-series 0 (λ i. i) rs ms (λ j. omega arith) (from-all noSeries rs) (from-all 0 ms) (n .ofRights))
       (sym (map-append (setSeries sides) (leftsFrom sides 0 ks) (cond adding (rightsFrom ks 0 ms) []))) in
       settled-concludes a b shape (events q obeys (placed ls rs)) ∙ rw (clashless, series)
+
+-- the law, for the operators that do not fall back and for those that do
+
+abbrev pub isGiven : Option Series → Bool
+isGiven none = false
+isGiven (some r) = true
+
+scalar-falls : (rs : List Series) → FallsTo (isGiven (scalarSide rs)) (scalarSide rs) rs
+scalar-falls [] = nowhere []
+scalar-falls (r ∷ []) = go (isBare (r .labels))
+  where
+    go : (t : Bool) → FallsTo (isGiven (cond t (some r) none)) (cond t (some r) none) (r ∷ [])
+    go true = onlyOne r
+    go false = nowhere (r ∷ [])
+scalar-falls (r ∷ s ∷ rs) = nowhere (r ∷ s ∷ rs)
+
+module _ (q : Query) (rule : SetRule) (p : ℕ) (ls rs : List Series) (ks ms : List ℕ) (sameLeft : length ks ≡ length ls) (sameRight : length ms ≡ length rs)
+    (widths : All (λ b. length (b .row) ≡ p) ls) (rowsLeft : RowsAt p (readingsOf ls) 0 ls) (rowsRight : RowsAt p (readingsOf rs) 0 rs) (labelRoom room : ℕ) (shape : Shape) where
+  abbrev pub setSidesOf : Bool → Bool → SetSides
+  setSidesOf falls adding =
+      record {
+        points = p;
+        rule = rule;
+        falls = falls;
+        adds = adds rule && adding;
+        leftLabels = labelsOfSide ls;
+        leftKeys = ks;
+        leftRows = readingsOf ls;
+        rightLabels = labelsOfSide rs;
+        rightKeys = ms;
+        rightRows = readingsOf rs;
+      }
+
+  pub set-concludes : kindOf (q .operator) ≡ setRule rule → Numbers q false ls rs ks ms
+      → concluded labelRoom room shape (verdict q ls rs) ≡ conclude labelRoom room shape none (map (setSeries (setSidesOf false true)) (setRows (setSidesOf false true)))
+  unfolding verdict
+  set-concludes hk n =
+      ap (λ o. concluded labelRoom room shape (settle (events q (ruleOf q o (look o ls rs)) (placed ls rs)))) hk
+      ∙ sets-conclude q rule p ls rs ks ms sameLeft sameRight widths rowsLeft rowsRight false (look (setRule rule) ls rs) (nowhere rs) labelRoom room shape n
+
+  pub fallback-concludes : kindOf (q .operator) ≡ fallback rule → Numbers q false ls rs ks ms
+      → concluded labelRoom room shape (verdict q ls rs)
+      ≡ conclude labelRoom room shape none (map (setSeries (setSidesOf (isGiven (scalarSide rs)) (isEmpty ls))) (setRows (setSidesOf (isGiven (scalarSide rs)) (isEmpty ls))))
+  unfolding verdict
+  fallback-concludes hk n =
+      ap (λ o. concluded labelRoom room shape (settle (events q (ruleOf q o (look o ls rs)) (placed ls rs)))) hk
+      ∙ sets-conclude q rule p ls rs ks ms sameLeft sameRight widths rowsLeft rowsRight (isGiven (scalarSide rs)) (look (fallback rule) ls rs) (scalar-falls rs) labelRoom room shape n

@@ -36,11 +36,11 @@ module _ {R : Type 0} where
   goodSeries [] = []
   goodSeries (e ∷ l) = goodBefore (e .what) (goodSeries l)
 
-  clash-append : (l m : List (Ranked R Event)) → firstClash (l ++ m) ≡ orElse (firstClash l) (firstClash m)
+  pub clash-append : (l m : List (Ranked R Event)) → firstClash (l ++ m) ≡ orElse (firstClash l) (firstClash m)
   clash-append [] m = refl
   clash-append (e ∷ l) m = ap (clashBefore (e .what)) (clash-append l m) ∙ clash-before (e .what) (firstClash l) (firstClash m)
 
-  good-append : (l m : List (Ranked R Event)) → goodSeries (l ++ m) ≡ goodSeries l ++ goodSeries m
+  pub good-append : (l m : List (Ranked R Event)) → goodSeries (l ++ m) ≡ goodSeries l ++ goodSeries m
   good-append [] m = refl
   good-append (e ∷ l) m = ap (goodBefore (e .what)) (good-append l m) ∙ good-before (e .what) (goodSeries l) (goodSeries m)
 
