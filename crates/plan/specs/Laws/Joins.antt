@@ -1,37 +1,36 @@
 -- Joins by key numbers are what the rule says. Assumes nothing.
-use Prim.Native.Nat.{ℕ, zero, suc, _+_, _-_, _*_, _/_, _%_, _<_, _≤_}
+use Prim.Native.Nat.{ℕ, zero, suc, _+_, _/_, _%_, _<_, _≤_}
 use mathlib.Core.Path.{_≡_, refl, sym, ap, _∙_, subst}
-use mathlib.Core.Bool.{Bool, true, false, not, cond, _&&_}
+use mathlib.Core.Bool.{Bool, true, false, cond, _&&_}
 use mathlib.Core.Option.{Option, none, some}
 use mathlib.Core.List.{List, [], _∷_, _++_, map}
 use native.Mathlib.Omega.{arith}
 use lib.Dec.{eqb}
-use lib.ListN.{length, getD, take, drop}
-use borrow.Author.Tests.{eqb-true, eqb-false, eq-eqb, ne-eqb}
-use Rattle.operator.specs.Kinds.{Kind, Arithmetic, Comparison, arithmetic, comparison, kindOf}
-use Rattle.model.specs.Lists.{cases, keep, All, gather}
+use lib.ListN.{length, getD, drop}
+use borrow.Author.Tests.{eqb-true, eq-eqb, ne-eqb}
+use Rattle.operator.specs.Kinds.{Arithmetic, Comparison, arithmetic, comparison, kindOf}
+use Rattle.model.specs.Lists.{cases, keep, gather}
 use Rattle.model.specs.Laws.Lists.{gather-append, gather-map, keep-map}
 use Rattle.model.specs.Laws.Booleans.{never, both-of}
 use Rattle.model.specs.Laws.Tags.{same-tags-is, is-same-tags}
-use Rattle.model.specs.Reading.{scalarOp}
 use Rattle.model.specs.Labels.{Labels, sameTags}
-use Rattle.model.specs.Query.{Query, Join, group, Side, left, right}
+use Rattle.model.specs.Query.{Query, group, Side, left, right}
 use Rattle.model.specs.Vector.{Series, Shape, readingsOf}
-use Rattle.semantics.specs.Places.{Place, Placed, Rank, numbered, placed, samePlace, alongside}
-use Rattle.semantics.specs.Events.{Duplicate, Event, good, bad, Ranked, mark, Rule, ofKey, producedBy, emission, events, settle}
+use Rattle.semantics.specs.Places.{Place, Placed, Rank, numbered, placed, alongside}
+use Rattle.semantics.specs.Events.{Duplicate, Event, Ranked, mark, Rule, ofKey, emission, events, settle}
 use Rattle.semantics.specs.Rules as Rules
-use Rattle.semantics.specs.Rules.{Merged, nothing, one, onSide, other, ofSide, isFirst, absorbed, mergedIntoEarliest, pairs, sameEdited, alikeTo, worked, groupOf, groups, joined, dropping, hasReadings}
-use Rattle.semantics.specs.Binop.{joinedLabels, joinedPair, joinRows, joinWork, allowedOverlaps, matchedRule, ruleOf, look}
+use Rattle.semantics.specs.Rules.{onSide, other, ofSide, isFirst, absorbed, mergedIntoEarliest, pairs, sameEdited, alikeTo, worked, groupOf, groups, joined, dropping, hasReadings}
+use Rattle.semantics.specs.Binop.{joinedLabels, joinedPair, joinWork, allowedOverlaps, matchedRule, ruleOf, look}
 use Rattle.semantics.specs.Call.{concluded, verdict}
 use Rattle.plan.specs.Keys.{dropped, keyed}
 use Rattle.plan.specs.Merging.{rowAt, RowMerge, row, failedAt, mergeGroup, mergeLead, rowOf, clash}
 use Rattle.plan.specs.Conclude.{orElse, conclude}
 use Rattle.plan.specs.Pairs.{noLabels}
 use Rattle.plan.specs.Joins.{JoinSides, sameEditedBy, leadOf, leadsAmong, leadsOf, leadsClash, rowCode, leadRows, joinClash, joinRowsFrom, joinLabels, joinRow, joinSeries}
-use Rattle.plan.specs.Laws.Settling.{firstClash, goodSeries, clash-append, good-append, firstOver, clash-gather, good-gather, clash-produced, good-produced, settled-concludes}
-use Rattle.plan.specs.Laws.Keyed.{takesPart, Sees, EachSees, Numbers, kept-lefts, kept-rights, all-lefts, all-rights}
-use Rattle.plan.specs.Laws.Merging.{RowsAt, RowsAt-drop, mergedAs, noSeries, row-at, absorbed-group, absorbed-relabelled}
-use Rattle.plan.specs.Laws.Pairs.{labelsOfSide}
+use Rattle.plan.specs.Laws.Settling.{firstClash, goodSeries, clash-append, good-append, firstOver, first-append, clash-gather, good-gather, clash-produced, good-produced, settled-concludes}
+use Rattle.plan.specs.Laws.Keyed.{Sees, EachSees, Numbers, kept-lefts, kept-rights, all-lefts, all-rights}
+use Rattle.plan.specs.Laws.Merging.{RowsAt, RowsAt-drop, mergedAs, row-at, absorbed-group, absorbed-relabelled}
+use Rattle.plan.specs.Laws.Common.{noSeries, labelsOfSide, getD-labels, labels-length, eqb-sym, zero-plus, not-so, is-so, nil-right, map-append, or-none, both-none, From, from-all, from-next, from-here}
 
 -- being edited alike is an equivalence
 
@@ -209,21 +208,6 @@ same-side : (s : Side) (t : Bool) → alongside s s t ≡ t
 same-side left t = refl
 same-side right t = refl
 
-eqb-sym : (a b : ℕ) → eqb a b ≡ eqb b a
-eqb-sym a b = cases (eqb b a) (λ e. eq-eqb a b (sym (eqb-true b a e)) ∙ sym e) (λ e. ne-eqb a b (λ h. eqb-false b a e (sym h)) ∙ sym e)
-
-zero-plus : (n : ℕ) → 0 + n ≡ n
-zero-plus n = omega arith
-
-labels-length : (bs : List Series) → length (labelsOfSide bs) ≡ length bs
-labels-length [] = refl
-labels-length (b ∷ bs) = ap suc (labels-length bs)
-
-getD-labelled : (bs : List Series) (j : ℕ) → getD (labelsOfSide bs) j noLabels ≡ getD bs j noSeries .labels
-getD-labelled [] j = refl
-getD-labelled (b ∷ bs) zero = refl
-getD-labelled (b ∷ bs) (suc j) = getD-labelled bs j
-
 module _ (q : Query) (many : Side) (p : ℕ) (os : List Series) (ok : List ℕ) (same : length ok ≡ length os) (few : length ok ≤ 512) (rowsOne : RowsAt p (readingsOf os) 0 os) (m : Series) (k : ℕ) where
   abbrev side : Side
   side = other many
@@ -371,39 +355,16 @@ module _ (q : Query) (many : Side) (p : ℕ) (os : List Series) (ok : List ℕ) 
   abbrev emitsAt : Placed → List (Ranked Place Event)
   emitsAt x = mark (x .place) (groupOf allowed (joinWork q many m) cs (editAs x))
 
-  record FromOne (xs : List ℕ) (bs : List Series) (i : ℕ) : Type 0 where
-    eachKey : (j : ℕ) → getD xs j 0 ≡ getD ok (i + j) 0
-    each : (j : ℕ) → getD bs j noSeries ≡ getD os (i + j) noSeries
-    size : i + length bs ≡ length os
-
-  next-one : (x : ℕ) (xs : List ℕ) (d : Series) (bs : List Series) (i : ℕ) → FromOne (x ∷ xs) (d ∷ bs) i → FromOne xs bs (suc i)
-  next-one x xs d bs i f =
-      record {
-        eachKey = λ j. f .eachKey (suc j) ∙ ap (λ n. getD ok n 0) (plus-suc j);
-        each = λ j. f .each (suc j) ∙ ap (λ n. getD os n noSeries) (plus-suc j);
-        size = omega (arith, f .size);
-      }
-    where
-      plus-suc : (j : ℕ) → i + suc j ≡ suc i + j
-      plus-suc j = omega arith
-
-  here-one : (x : ℕ) (xs : List ℕ) (d : Series) (bs : List Series) (i : ℕ) → FromOne (x ∷ xs) (d ∷ bs) i → (getD ok i 0 ≡ x) × (getD os i noSeries ≡ d)
-  here-one x xs d bs i f = let z : i + 0 ≡ i = omega arith in (sym (f .eachKey 0 ∙ ap (λ n. getD ok n 0) z), sym (f .each 0 ∙ ap (λ n. getD os n noSeries) z))
-
-  both-none : (o u : Option Duplicate) → orElse o u ≡ none → (o ≡ none) × (u ≡ none)
-  both-none none u e = (refl, e)
-  both-none (some d) u e = absurd (let z : _≡_ {A = ℕ} 0 1 = cc in omega arith)
-
-  leads-clash : (i : ℕ) (xs : List ℕ) (bs : List Series) → length xs ≡ length bs → FromOne xs bs i
+  leads-clash : (i : ℕ) (xs : List ℕ) (bs : List Series) → length xs ≡ length bs → From 0 ok xs i → From noSeries os bs i
       → firstClash (gather emitsAt (keyed side k i xs bs)) ≡ leadsClash allowed p (readingsOf os) side leads i (leadsAmong q ml k ok ol xs (labelsOfSide bs))
   unfolding keyed leadsClash leadsAmong
-  leads-clash i [] [] e f = refl
-  leads-clash i [] (d ∷ bs) e f = absurd (omega (arith, e))
-  leads-clash i (x ∷ xs) [] e f = absurd (omega (arith, e))
-  leads-clash i (x ∷ xs) (d ∷ bs) e f = go (leads-clash (suc i) xs bs (omega (arith, e)) (next-one x xs d bs i f)) (eqb x k) refl
+  leads-clash i [] [] e fk f = refl
+  leads-clash i [] (d ∷ bs) e fk f = absurd (omega (arith, e))
+  leads-clash i (x ∷ xs) [] e fk f = absurd (omega (arith, e))
+  leads-clash i (x ∷ xs) (d ∷ bs) e fk f = go (leads-clash (suc i) xs bs (omega (arith, e)) (from-next 0 ok x xs i fk) (from-next noSeries os d bs i f)) (eqb x k) refl
     where
       here : (getD ok i 0 ≡ x) × (getD os i noSeries ≡ d)
-      here = here-one x xs d bs i f
+      here = (from-here 0 ok x xs i fk, from-here noSeries os d bs i f)
 
       within : i < length os
       within = omega (arith, f .size)
@@ -420,17 +381,17 @@ module _ (q : Query) (many : Side) (p : ℕ) (os : List Series) (ok : List ℕ) 
 
   module _ (mi : ℕ) (rowOfCode : ℕ → Series)
       (known : (o : ℕ) → o < length os → rowOfCode (rowCode mi o) ≡ joinWork q many m (record { labels = joinedLabels q ml (getD os o noSeries .labels); row = rowOf (mergeLead allowed p (readingsOf os) leads o) })) where
-    leads-good : (i : ℕ) (xs : List ℕ) (bs : List Series) → length xs ≡ length bs → FromOne xs bs i
+    leads-good : (i : ℕ) (xs : List ℕ) (bs : List Series) → length xs ≡ length bs → From 0 ok xs i → From noSeries os bs i
         → leadsClash allowed p (readingsOf os) side leads i (leadsAmong q ml k ok ol xs (labelsOfSide bs)) ≡ none
         → goodSeries (gather emitsAt (keyed side k i xs bs)) ≡ map rowOfCode (leadRows mi i (leadsAmong q ml k ok ol xs (labelsOfSide bs)))
     unfolding keyed leadsClash leadsAmong leadRows
-    leads-good i [] [] e f n = refl
-    leads-good i [] (d ∷ bs) e f n = absurd (omega (arith, e))
-    leads-good i (x ∷ xs) [] e f n = absurd (omega (arith, e))
-    leads-good i (x ∷ xs) (d ∷ bs) e f n = go (leads-good (suc i) xs bs (omega (arith, e)) (next-one x xs d bs i f)) (eqb x k) refl n
+    leads-good i [] [] e fk f n = refl
+    leads-good i [] (d ∷ bs) e fk f n = absurd (omega (arith, e))
+    leads-good i (x ∷ xs) [] e fk f n = absurd (omega (arith, e))
+    leads-good i (x ∷ xs) (d ∷ bs) e fk f n = go (leads-good (suc i) xs bs (omega (arith, e)) (from-next 0 ok x xs i fk) (from-next noSeries os d bs i f)) (eqb x k) refl n
       where
         here : (getD ok i 0 ≡ x) × (getD os i noSeries ≡ d)
-        here = here-one x xs d bs i f
+        here = (from-here 0 ok x xs i fk, from-here noSeries os d bs i f)
 
         within : i < length os
         within = omega (arith, f .size)
@@ -493,9 +454,9 @@ module _ (q : Query) (many : Side) (p : ℕ) (bs : List Series) (mk : List ℕ) 
   unfolding joinSeries joinLabels joinRow joinWork
   series-known b i k w hb hk o ho =
       let small : o < 512 = omega (arith, ho, same) in
-      let labels : getD (labelsOfSide bs) i noLabels ≡ b .labels = getD-labelled bs i ∙ ap (λ d. d .labels) hb in
+      let labels : getD (labelsOfSide bs) i noLabels ≡ b .labels = getD-labels bs i ∙ ap (λ d. d .labels) hb in
       let stands : rowAt p (readingsOf bs) i ≡ b .row = sym (ap (rowAt p (readingsOf bs)) (zero-plus i)) ∙ row-at p (readingsOf bs) 0 bs rowsMany i w ∙ ap (λ d. d .row) hb in
-      rw (code-many i o small, code-one i o small, labels, hk, stands, getD-labelled os o)
+      rw (code-many i o small, code-one i o small, labels, hk, stands, getD-labels os o)
 
   -- what a many-side series b of the number k at the place i must emit
   record EmitsJoin (f : Placed → List (Ranked Rank Event)) (b : Series) (i k : ℕ) : Type 0 where
@@ -520,14 +481,6 @@ module _ (q : Query) (many : Side) (p : ℕ) (bs : List Series) (mk : List ℕ) 
         let first : g zero ≡ i = h zero ∙ (omega arith) in
         rw (first, e .0 .clashes, manys-clash (suc i) (λ j. g (suc j)) cs xs (λ j. h (suc j) ∙ (omega arith)) (e .1))
 
-    none-both : (o u : Option Duplicate) → orElse o u ≡ none → (o ≡ none) × (u ≡ none)
-    none-both none u e = (refl, e)
-    none-both (some d) u e = absurd (let z : _≡_ {A = ℕ} 0 1 = cc in omega arith)
-
-    map-append : (xs ys : List ℕ) → map (joinSeries q many sides) (xs ++ ys) ≡ map (joinSeries q many sides) xs ++ map (joinSeries q many sides) ys
-    map-append [] ys = refl
-    map-append (x ∷ xs) ys = ap (λ l. joinSeries q many sides x ∷ l) (map-append xs ys)
-
     manys-good : (i : ℕ) (g : ℕ → ℕ) (cs : List Series) (xs : List ℕ) → ((j : ℕ) → g j ≡ i + j) → EachJoin f i cs xs → joinClash q many sides xs (labelsOfSide cs) ≡ none
         → gather (λ x. goodSeries (f x)) (numbered many g cs) ≡ map (joinSeries q many sides) (joinRowsFrom q sides i xs (labelsOfSide cs))
     unfolding joinClash joinRowsFrom EachJoin
@@ -536,9 +489,9 @@ module _ (q : Query) (many : Side) (p : ℕ) (bs : List Series) (mk : List ℕ) 
     manys-good i g (b ∷ cs) [] h e n = absurd e
     manys-good i g (b ∷ cs) (k ∷ xs) h e n =
         let first : g zero ≡ i = h zero ∙ (omega arith) in
-        let z = none-both (cond (eqb k dropped) none (clashFor b k)) (joinClash q many sides xs (labelsOfSide cs)) n in
+        let z = both-none (cond (eqb k dropped) none (clashFor b k)) (joinClash q many sides xs (labelsOfSide cs)) n in
         rw (first, e .0 .answers (z .0), manys-good (suc i) (λ j. g (suc j)) cs xs (λ j. h (suc j) ∙ (omega arith)) (e .1) (z .1))
-        (sym (map-append (cond (eqb k dropped) [] (leadRows i 0 (leadsFor b k))) (joinRowsFrom q sides (suc i) xs (labelsOfSide cs))))
+        (sym (map-append (joinSeries q many sides) (cond (eqb k dropped) [] (leadRows i 0 (leadsFor b k))) (joinRowsFrom q sides (suc i) xs (labelsOfSide cs))))
 
   -- a series of the rule, by what it sees of the one side
 
@@ -553,48 +506,15 @@ module _ (q : Query) (many : Side) (p : ℕ) (bs : List Series) (mk : List ℕ) 
   unfolding groups
   groups-are b k = gather-map (λ c. mark (c .place) (groupOf (allowedOverlaps q) (joinWork q many b) (pairs (joinedPair q) b (keyed (other many) k 0 ok os)) c)) (λ x. record { place = x .place; series = joinedPair q b (x .series) }) (keyed (other many) k 0 ok os)
 
-  whole-one : (b : Series) (k : ℕ) → FromOne q many p os ok same few rowsOne b k ok os 0
-  whole-one b k = record { eachKey = λ j. ap (λ n. getD ok n 0) (sym (zero-plus j)); each = λ j. ap (λ n. getD os n noSeries) (sym (zero-plus j)); size = omega arith }
-
   taking-clash : (b : Series) (i k : ℕ) (xs : List Placed) → ofSide (other many) xs ≡ keyed (other many) k 0 ok os
       → firstClash (rule (record { place = record { side = many; number = i }; series = b }) xs) ≡ clashFor b k
-  taking-clash b i k xs h = rw (on-same many, h, groups-are b k) (leads-clash q many p os ok same few rowsOne b k 0 ok os same (whole-one b k))
+  taking-clash b i k xs h = rw (on-same many, h, groups-are b k) (leads-clash q many p os ok same few rowsOne b k 0 ok os same (from-all 0 ok) (from-all noSeries os))
 
   taking-good : (b : Series) (i k : ℕ) (xs : List Placed) → i < length bs → getD bs i noSeries ≡ b → getD mk i 0 ≡ k → ofSide (other many) xs ≡ keyed (other many) k 0 ok os → clashFor b k ≡ none
       → goodSeries (rule (record { place = record { side = many; number = i }; series = b }) xs) ≡ map (joinSeries q many sides) (leadRows i 0 (leadsFor b k))
   taking-good b i k xs w hb hk h n =
       rw (on-same many, h, groups-are b k)
-      (leads-good q many p os ok same few rowsOne b k i (joinSeries q many sides) (series-known b i k w hb hk) 0 ok os same (whole-one b k) n)
-
-  record FromMany (cs : List Series) (xs : List ℕ) (i : ℕ) : Type 0 where
-    eachKey : (j : ℕ) → getD xs j 0 ≡ getD mk (i + j) 0
-    each : (j : ℕ) → getD cs j noSeries ≡ getD bs (i + j) noSeries
-    size : i + length cs ≡ length bs
-
-  whole-many : FromMany bs mk 0
-  whole-many = record { eachKey = λ j. ap (λ n. getD mk n 0) (sym (zero-plus j)); each = λ j. ap (λ n. getD bs n noSeries) (sym (zero-plus j)); size = omega arith }
-
-  next-many : (d : Series) (cs : List Series) (x : ℕ) (xs : List ℕ) (i : ℕ) → FromMany (d ∷ cs) (x ∷ xs) i → FromMany cs xs (suc i)
-  next-many d cs x xs i f =
-      record {
-        eachKey = λ j. f .eachKey (suc j) ∙ ap (λ n. getD mk n 0) (plus-suc j);
-        each = λ j. f .each (suc j) ∙ ap (λ n. getD bs n noSeries) (plus-suc j);
-        size = omega (arith, f .size);
-      }
-    where
-      plus-suc : (j : ℕ) → i + suc j ≡ suc i + j
-      plus-suc j = omega arith
-
-  here-many : (d : Series) (cs : List Series) (x : ℕ) (xs : List ℕ) (i : ℕ) → FromMany (d ∷ cs) (x ∷ xs) i → (getD mk i 0 ≡ x) × (getD bs i noSeries ≡ d)
-  here-many d cs x xs i f = let z : i + 0 ≡ i = omega arith in (sym (f .eachKey 0 ∙ ap (λ n. getD mk n 0) z), sym (f .each 0 ∙ ap (λ n. getD bs n noSeries) z))
-
-  not-so : (t : Bool) → true ≡ not t → t ≡ false
-  not-so true e = e
-  not-so false e = refl
-
-  is-so : (t : Bool) → false ≡ not t → t ≡ true
-  is-so true e = refl
-  is-so false e = e
+      (leads-good q many p os ok same few rowsOne b k i (joinSeries q many sides) (series-known b i k w hb hk) 0 ok os same (from-all 0 ok) (from-all noSeries os) n)
 
   -- the two kinds of query, over the sides of a call
   module _ (ls rs : List Series) (ks ms : List ℕ) where
@@ -609,14 +529,13 @@ module _ (q : Query) (many : Side) (p : ℕ) (bs : List Series) (mk : List ℕ) 
             answers = λ n. good-produced (here .place) (rule here seen) ∙ taking-good b i k seen w hb hk (sees b k s) (rw part at n) ∙ rw part;
           }
 
-      each-comparison : (i : ℕ) (cs : List Series) (xs : List ℕ) → FromMany cs xs i → EachSees (Sees q false ls rs ks ms) cs xs → EachJoin (emission q rule (placed ls rs)) i cs xs
+      each-comparison : (i : ℕ) (cs : List Series) (xs : List ℕ) → From noSeries bs cs i → From 0 mk xs i → EachSees (Sees q false ls rs ks ms) cs xs → EachJoin (emission q rule (placed ls rs)) i cs xs
       unfolding EachJoin
-      each-comparison i [] [] f e = tt
-      each-comparison i [] (k ∷ xs) f e = e
-      each-comparison i (b ∷ cs) [] f e = e
-      each-comparison i (b ∷ cs) (k ∷ xs) f e =
-          let h = here-many b cs k xs i f in
-          (comparison-emits b i k (omega (arith, f .size)) (h .1) (h .0) (e .0), each-comparison (suc i) cs xs (next-many b cs k xs i f) (e .1))
+      each-comparison i [] [] f fk e = tt
+      each-comparison i [] (k ∷ xs) f fk e = e
+      each-comparison i (b ∷ cs) [] f fk e = e
+      each-comparison i (b ∷ cs) (k ∷ xs) f fk e =
+          (comparison-emits b i k (omega (arith, f .size)) (from-here noSeries bs b cs i f) (from-here 0 mk k xs i fk) (e .0), each-comparison (suc i) cs xs (from-next noSeries bs b cs i f) (from-next 0 mk k xs i fk) (e .1))
 
     module _ (sees : (b : Series) (k : ℕ) → Sees q true ls rs ks ms b k → hasReadings b ≡ true
         → ofSide (other many) (keep (λ x. hasReadings (x .series)) (ofKey q (b .labels) (placed ls rs))) ≡ keyed (other many) k 0 ok os) where
@@ -640,14 +559,13 @@ module _ (q : Query) (many : Side) (p : ℕ) (bs : List Series) (mk : List ℕ) 
               let out : eqb k dropped ≡ true = is-so (eqb k dropped) (sym h ∙ s .takes) in
               record { clashes = rw (h, out); answers = λ n. rw (h, out) }
 
-      each-arithmetic : (i : ℕ) (cs : List Series) (xs : List ℕ) → FromMany cs xs i → EachSees (Sees q true ls rs ks ms) cs xs → EachJoin (emission q (dropping rule) (placed ls rs)) i cs xs
+      each-arithmetic : (i : ℕ) (cs : List Series) (xs : List ℕ) → From noSeries bs cs i → From 0 mk xs i → EachSees (Sees q true ls rs ks ms) cs xs → EachJoin (emission q (dropping rule) (placed ls rs)) i cs xs
       unfolding EachJoin
-      each-arithmetic i [] [] f e = tt
-      each-arithmetic i [] (k ∷ xs) f e = e
-      each-arithmetic i (b ∷ cs) [] f e = e
-      each-arithmetic i (b ∷ cs) (k ∷ xs) f e =
-          let h = here-many b cs k xs i f in
-          (arithmetic-emits b i k (omega (arith, f .size)) (h .1) (h .0) (e .0), each-arithmetic (suc i) cs xs (next-many b cs k xs i f) (e .1))
+      each-arithmetic i [] [] f fk e = tt
+      each-arithmetic i [] (k ∷ xs) f fk e = e
+      each-arithmetic i (b ∷ cs) [] f fk e = e
+      each-arithmetic i (b ∷ cs) (k ∷ xs) f fk e =
+          (arithmetic-emits b i k (omega (arith, f .size)) (from-here noSeries bs b cs i f) (from-here 0 mk k xs i fk) (e .0), each-arithmetic (suc i) cs xs (from-next noSeries bs b cs i f) (from-next 0 mk k xs i fk) (e .1))
 
   -- series of the one side emit nothing
 
@@ -668,29 +586,12 @@ module _ (q : Query) (many : Side) (p : ℕ) (bs : List Series) (mk : List ℕ) 
     clashes : firstClash (gather f xs) ≡ joinClash q many sides mk (labelsOfSide bs)
     answers : joinClash q many sides mk (labelsOfSide bs) ≡ none → goodSeries (gather f xs) ≡ map (joinSeries q many sides) (joinRowsFrom q sides 0 mk (labelsOfSide bs))
 
-  first-append : (f : Placed → List (Ranked Rank Event)) (xs ys : List Placed)
-      → firstOver (λ x. firstClash (f x)) (xs ++ ys) ≡ orElse (firstOver (λ x. firstClash (f x)) xs) (firstOver (λ x. firstClash (f x)) ys)
-  first-append f [] ys = refl
-  first-append f (x ∷ xs) ys = rw (first-append f xs ys) (or-assoc (firstClash (f x)) _ _)
-    where
-      or-assoc : (o u v : Option Duplicate) → orElse o (orElse u v) ≡ orElse (orElse o u) v
-      or-assoc none u v = refl
-      or-assoc (some d) u v = refl
-
-  or-none : (o : Option Duplicate) → orElse o none ≡ o
-  or-none none = refl
-  or-none (some d) = refl
-
-  nil-right : (xs : List Series) → xs ++ [] ≡ xs
-  nil-right [] = refl
-  nil-right (x ∷ xs) = ap (λ l. x ∷ l) (nil-right xs)
-
   module _ (f : Placed → List (Ranked Rank Event)) (each : EachJoin f 0 bs mk) (s : Side) (silent : (n : ℕ) (b : Series) → f (record { place = record { side = s; number = n }; series = b }) ≡ []) where
     many-first : (cs : List Series) → Emits (numbered many (λ i. i) bs ++ numbered s (λ i. i) cs) f
     many-first cs =
         record {
           clashes =
-              clash-gather f (numbered many (λ i. i) bs ++ numbered s (λ i. i) cs) ∙ first-append f (numbered many (λ i. i) bs) (numbered s (λ i. i) cs)
+              clash-gather f (numbered many (λ i. i) bs ++ numbered s (λ i. i) cs) ∙ first-append (λ x. firstClash (f x)) (numbered many (λ i. i) bs) (numbered s (λ i. i) cs)
               ∙ rw (manys-clash f 0 (λ i. i) bs mk (λ j. omega arith) each, silent-clash f s silent (λ i. i) cs) (or-none (joinClash q many sides mk (labelsOfSide bs)));
           answers = λ n.
               good-gather f (numbered many (λ i. i) bs ++ numbered s (λ i. i) cs) ∙ gather-append (λ x. goodSeries (f x)) (numbered many (λ i. i) bs) (numbered s (λ i. i) cs)
@@ -701,7 +602,7 @@ module _ (q : Query) (many : Side) (p : ℕ) (bs : List Series) (mk : List ℕ) 
     many-last cs =
         record {
           clashes =
-              clash-gather f (numbered s (λ i. i) cs ++ numbered many (λ i. i) bs) ∙ first-append f (numbered s (λ i. i) cs) (numbered many (λ i. i) bs)
+              clash-gather f (numbered s (λ i. i) cs ++ numbered many (λ i. i) bs) ∙ first-append (λ x. firstClash (f x)) (numbered s (λ i. i) cs) (numbered many (λ i. i) bs)
               ∙ rw (silent-clash f s silent (λ i. i) cs) (manys-clash f 0 (λ i. i) bs mk (λ j. omega arith) each);
           answers = λ n.
               good-gather f (numbered s (λ i. i) cs ++ numbered many (λ i. i) bs) ∙ gather-append (λ x. goodSeries (f x)) (numbered s (λ i. i) cs) (numbered many (λ i. i) bs)
@@ -735,7 +636,7 @@ module _ (q : Query) (p : ℕ) (ls rs : List Series) (ks ms : List ℕ) (sameLef
         ∙ ap (λ j. concluded labelRoom room shape (settle (events q (matchedRule q j) (placed ls rs)))) hj
         ∙ emits-conclude q left p ls ks rs ms sameLeft sameRight few rowsLeft rowsRight labelRoom room shape (placed ls rs) _
         (many-first q left p ls ks rs ms sameLeft sameRight few rowsLeft rowsRight _
-        (each-comparison q left p ls ks rs ms sameLeft sameRight few rowsLeft rowsRight ls rs ks ms (λ b k s. all-rights q ls rs ks ms b k s) 0 ls ks (whole-many q left p ls ks rs ms sameLeft sameRight few rowsLeft rowsRight) (n .ofLefts))
+        (each-comparison q left p ls ks rs ms sameLeft sameRight few rowsLeft rowsRight ls rs ks ms (λ b k s. all-rights q ls rs ks ms b k s) 0 ls ks (from-all noSeries ls) (from-all 0 ks) (n .ofLefts))
         right (λ i b. refl) rs)
 
     pub arithmetic-joins-left : (c : Arithmetic) → kindOf (q .operator) ≡ arithmetic c → Numbers q true ls rs ks ms
@@ -746,7 +647,7 @@ module _ (q : Query) (p : ℕ) (ls rs : List Series) (ks ms : List ℕ) (sameLef
         ∙ ap (λ j. concluded labelRoom room shape (settle (events q (dropping (matchedRule q j)) (placed ls rs)))) hj
         ∙ emits-conclude q left p ls ks rs ms sameLeft sameRight few rowsLeft rowsRight labelRoom room shape (placed ls rs) _
         (many-first q left p ls ks rs ms sameLeft sameRight few rowsLeft rowsRight _
-        (each-arithmetic q left p ls ks rs ms sameLeft sameRight few rowsLeft rowsRight ls rs ks ms (λ b k s h. kept-rights q ls rs ks ms b k s h) 0 ls ks (whole-many q left p ls ks rs ms sameLeft sameRight few rowsLeft rowsRight) (n .ofLefts))
+        (each-arithmetic q left p ls ks rs ms sameLeft sameRight few rowsLeft rowsRight ls rs ks ms (λ b k s h. kept-rights q ls rs ks ms b k s h) 0 ls ks (from-all noSeries ls) (from-all 0 ks) (n .ofLefts))
         right (λ i b. cases (hasReadings b) (λ e. rw e) (λ e. rw e)) rs)
 
   -- and group_right
@@ -763,7 +664,7 @@ module _ (q : Query) (p : ℕ) (ls rs : List Series) (ks ms : List ℕ) (sameLef
         ∙ ap (λ j. concluded labelRoom room shape (settle (events q (matchedRule q j) (placed ls rs)))) hj
         ∙ emits-conclude q right p rs ms ls ks sameRight sameLeft few rowsRight rowsLeft labelRoom room shape (placed ls rs) _
         (many-last q right p rs ms ls ks sameRight sameLeft few rowsRight rowsLeft _
-        (each-comparison q right p rs ms ls ks sameRight sameLeft few rowsRight rowsLeft ls rs ks ms (λ b k s. all-lefts q ls rs ks ms b k s) 0 rs ms (whole-many q right p rs ms ls ks sameRight sameLeft few rowsRight rowsLeft) (n .ofRights))
+        (each-comparison q right p rs ms ls ks sameRight sameLeft few rowsRight rowsLeft ls rs ks ms (λ b k s. all-lefts q ls rs ks ms b k s) 0 rs ms (from-all noSeries rs) (from-all 0 ms) (n .ofRights))
         left (λ i b. refl) ls)
 
     pub arithmetic-joins-right : (c : Arithmetic) → kindOf (q .operator) ≡ arithmetic c → Numbers q true ls rs ks ms
@@ -774,5 +675,5 @@ module _ (q : Query) (p : ℕ) (ls rs : List Series) (ks ms : List ℕ) (sameLef
         ∙ ap (λ j. concluded labelRoom room shape (settle (events q (dropping (matchedRule q j)) (placed ls rs)))) hj
         ∙ emits-conclude q right p rs ms ls ks sameRight sameLeft few rowsRight rowsLeft labelRoom room shape (placed ls rs) _
         (many-last q right p rs ms ls ks sameRight sameLeft few rowsRight rowsLeft _
-        (each-arithmetic q right p rs ms ls ks sameRight sameLeft few rowsRight rowsLeft ls rs ks ms (λ b k s h. kept-lefts q ls rs ks ms b k s h) 0 rs ms (whole-many q right p rs ms ls ks sameRight sameLeft few rowsRight rowsLeft) (n .ofRights))
+        (each-arithmetic q right p rs ms ls ks sameRight sameLeft few rowsRight rowsLeft ls rs ks ms (λ b k s h. kept-lefts q ls rs ks ms b k s h) 0 rs ms (from-all noSeries rs) (from-all 0 ms) (n .ofRights))
         left (λ i b. cases (hasReadings b) (λ e. rw e) (λ e. rw e)) ls)

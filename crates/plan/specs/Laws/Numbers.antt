@@ -6,7 +6,7 @@ use mathlib.Core.List.{List, [], _∷_}
 use native.Mathlib.Omega.{arith}
 use lib.Dec.{eqb}
 use lib.ListN.{length, getD}
-use borrow.Author.Tests.{eqb-true, eqb-false, eq-eqb, ne-eqb}
+use borrow.Author.Tests.{ne-eqb}
 use Rattle.model.specs.Lists.{cases}
 use Rattle.model.specs.Laws.Tags.{same-tags-is, is-same-tags}
 use Rattle.model.specs.Laws.Booleans.{never}
@@ -16,8 +16,8 @@ use Rattle.model.specs.Query.{Query, sameKey, keyOf}
 use Rattle.model.specs.Vector.{Series}
 use Rattle.semantics.specs.Rules.{hasReadings}
 use Rattle.plan.specs.Keys.{dropped}
-use Rattle.plan.specs.Laws.Keyed.{Told, takesPart, seenBy, Sees, EachSees, Numbers}
-use Rattle.plan.specs.Laws.Merging.{noSeries}
+use Rattle.plan.specs.Laws.Keyed.{Told, seenBy, EachSees, Numbers}
+use Rattle.plan.specs.Laws.Common.{noSeries, eqb-sym}
 
 -- equal numbers exactly where keys are equal, over both sides; and numbers of keys are below that of dropped series
 pub record TellsKeys (q : Query) (cs bs : List Series) (xs ys : List ℕ) : Type 0 where
@@ -37,9 +37,6 @@ unfoldable pub droppedKeys : List ℕ → List Series → List ℕ
 droppedKeys [] bs = []
 droppedKeys (k ∷ ks) [] = []
 droppedKeys (k ∷ ks) (b ∷ bs) = cond (onlyMissing (b .row)) dropped k ∷ droppedKeys ks bs
-
-eqb-sym : (a b : ℕ) → eqb a b ≡ eqb b a
-eqb-sym a b = cases (eqb b a) (λ e. eq-eqb a b (sym (eqb-true b a e)) ∙ sym e) (λ e. ne-eqb a b (λ h. eqb-false b a e (sym h)) ∙ sym e)
 
 key-sym : (q : Query) (a b : Labels) → sameKey q a b ≡ sameKey q b a
 unfolding sameKey
