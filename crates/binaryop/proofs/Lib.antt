@@ -1,0 +1,3 @@
+pub mod Nan
+pub mod Comparing
+pub mod Dispatch

@@ -1,0 +1,11 @@
+-- `op_if_not` meets its contract, from those of its calls. Assumes nothing.
+use Rattle.binaryop.specs.Leaves.{whereMissing}
+use Rattle.binaryop.proofs.op_if_not.Statement.{statement}
+use Rattle.binaryop.proofs.op_if_not.Tie as tie
+
+returns : tie.Need-returns
+unfolding whereMissing
+returns c = cc
+
+pub op-if-not-spec : {M : Type 1} → statement M
+op-if-not-spec = tie.close (tie.spec (λ c κs. tt) (λ c κs. tt) returns)

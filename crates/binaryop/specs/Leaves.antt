@@ -1,0 +1,28 @@
+-- What the code's small functions give: a gap as a number, a comparison's value, the readings of the set rules. Assumes nothing.
+use Prim.Native.Nat.{ℕ}
+use mathlib.Core.Bool.{Bool, true, false, cond}
+use Rattle.model.specs.Reading.{missing, noReading, oneOrZero}
+
+-- 1 where x is missing
+unfoldable pub gapOf : ℕ → ℕ
+gapOf x = cond (missing x) 1 0
+
+-- 01: Comparison gives the left reading if true, else N. With bool: left N gives N, else 1 or 0.
+abbrev pub comparisonValue : Bool → Bool → ℕ → ℕ
+comparisonValue true h x = cond (missing x) noReading (oneOrZero h)
+comparisonValue false h x = cond h x noReading
+
+-- what an operator that is neither arithmetic nor a comparison gives
+abbrev pub nothing : ℕ → ℕ → ℕ
+nothing x y = noReading
+
+-- 01: `and`, `if` keep the left reading if one has a reading; `unless`, `ifnot` if none has. Here against one right reading.
+unfoldable pub whereReading : ℕ → ℕ → ℕ
+whereReading x y = cond (missing y) noReading x
+
+unfoldable pub whereMissing : ℕ → ℕ → ℕ
+whereMissing x y = cond (missing y) x noReading
+
+-- 01: `or`, `default` fill N from the first that has.
+unfoldable pub filledFrom : ℕ → ℕ → ℕ
+filledFrom x y = cond (missing x) (cond (missing y) x y) x

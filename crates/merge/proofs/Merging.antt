@@ -1,0 +1,139 @@
+-- Merging: a turn and the end of each of its loops, and what it answers by what the tests found. Assumes nothing.
+use mathlib.Core.Path.{_≡_, refl, sym, _∙_}
+use mathlib.Core.Bool.{Bool, true, false, cond, _||_}
+use mathlib.Core.List.{List, [], _∷_, _++_, append-nil}
+use Prim.Native.Nat.{ℕ, suc, _+_, _-_, _≤_, _<_}
+use native.Mathlib.Nat.{le-refl}
+use native.Mathlib.Numerals.{add-one}
+use native.Mathlib.Omega.{arith}
+use lib.Bits.{bitOr}
+use lib.ListN.{length, getD, drop, take, set, length-set, drop-of-length-le}
+use lib.Seq.{drop-cons, take-suc-set, drop-set-lt, append-snoc, take-all}
+use borrow.Author.Tests.{eq-eqb, ne-eqb, le-leb, lt-leb, lt-ltb, le-ltb}
+use Rattle.model.specs.Reading.{missing}
+use Rattle.model.specs.Row.{overlaps, overwritten, merged}
+use Rattle.merge.specs.declared.Merged.{Merged}
+use Rattle.merge.specs.declared.Merged.the-variants.{Done, Overlapping, Unequal}
+use Rattle.binaryop.specs.Leaves.{gapOf}
+use Rattle.merge.specs.Merging.{bothOf, sourceFirst, MergedAs, mergedAlone}
+
+-- 1 where both are readings
+
+or-one : (p q : Bool) → bitOr (cond p 1 0) (cond q 1 0) ≡ cond (p || q) 1 0
+or-one true true = refl
+or-one true false = refl
+or-one false true = refl
+or-one false false = refl
+
+one-less : (p : Bool) → (cond p 1 0 ≤ 1) × (1 - cond p 1 0 ≡ cond p 0 1)
+one-less true = (le-refl 1, refl)
+one-less false = (omega arith, refl)
+
+pub gaps-at-most : (x y : ℕ) → bitOr (gapOf x) (gapOf y) ≤ 1
+unfolding gapOf
+gaps-at-most x y = rw (or-one (missing x) (missing y)) (one-less (missing x || missing y) .0)
+
+pub both-told : (x y : ℕ) → 1 - bitOr (gapOf x) (gapOf y) ≡ bothOf x y
+unfolding gapOf bothOf
+both-told x y = rw (or-one (missing x) (missing y)) (one-less (missing x || missing y) .1)
+
+one-at-most : (p : Bool) → cond p 0 1 ≤ 1
+one-at-most true = omega arith
+one-at-most false = omega arith
+
+both-at-most : (x y : ℕ) → bothOf x y ≤ 1
+unfolding bothOf
+both-at-most x y = one-at-most (missing x || missing y)
+
+-- counting
+
+counted : (p : Bool) (n : ℕ) → cond p n (suc n) ≡ cond p 0 1 + n
+counted true n = omega arith
+counted false n = omega arith
+
+-- i places are passed, n of them overlap
+pub record Counted (d s : List ℕ) (n i : ℕ) : Type 0 where
+  pub within : i ≤ length d
+  pub fewer : n ≤ i
+  pub rest : n + overlaps (drop i d) (drop i s) ≡ overlaps d s
+
+module _ (d s : List ℕ) where
+  pub count-starts : Counted d s 0 0
+  count-starts = record { within = omega arith; fewer = omega arith; rest = omega arith }
+
+  module _ (n i : ℕ) (k : Counted d s n i) where
+    overlaps-step : i < length d → i < length s → overlaps (drop i d) (drop i s) ≡ bothOf (getD d i 0) (getD s i 0) + overlaps (drop (i + 1) d) (drop (i + 1) s)
+    unfolding overlaps bothOf
+    overlaps-step hd hs = rw (drop-cons d i 0, drop-cons s i 0, add-one, counted)
+
+    module _ (v : ℕ) (told : v ≡ bothOf (getD d i 0) (getD s i 0)) (same : length s ≡ length d) (h : i < length d) where
+      pub count-turn : Counted d s (n + v) (i + 1)
+      count-turn = record {
+        within = omega arith;
+        fewer = omega (arith, both-at-most (getD d i 0) (getD s i 0), k .fewer);
+        rest = omega (arith, k .rest, overlaps-step h (omega arith));
+      }
+
+      pub count-fits : n + v ≤ i + 1
+      count-fits = omega (arith, both-at-most (getD d i 0) (getD s i 0), k .fewer)
+
+    none-left : length d ≤ i → overlaps (drop i d) (drop i s) ≡ 0
+    unfolding overlaps
+    none-left h = rw (drop-of-length-le d)
+
+    pub count-ends : length d ≤ i → n ≡ overlaps d s
+    count-ends h = omega (arith, k .rest, none-left h)
+
+-- overwriting, in place
+
+-- i places are overwritten: what is written, then what is left, overwritten, is the whole
+pub record Overwriting (before s d : List ℕ) (i : ℕ) : Type 0 where
+  pub long : length d ≡ length before
+  pub within : i ≤ length d
+  pub rest : take i d ++ overwritten (drop i d) (drop i s) ≡ overwritten before s
+
+module _ (before s : List ℕ) where
+  pub overwrite-starts : Overwriting before s before 0
+  overwrite-starts = record { long = refl; within = omega arith; rest = refl }
+
+  module _ (d : List ℕ) (i : ℕ) (o : Overwriting before s d i) where
+    overwrite-step : (v : ℕ) → v ≡ sourceFirst (getD d i 0) (getD s i 0) → i < length d → i < length s → take (i + 1) (set d i v) ++ overwritten (drop (i + 1) (set d i v)) (drop (i + 1) s) ≡ take i d ++ overwritten (drop i d) (drop i s)
+    unfolding overwritten sourceFirst
+    overwrite-step v e hd hs =
+        let lt : i < suc i = le-refl (suc i) in
+        rw (e, add-one, take-suc-set, drop-set-lt, append-snoc, drop-cons d i 0, drop-cons s i 0)
+
+    pub overwrite-turn : (v : ℕ) → v ≡ sourceFirst (getD d i 0) (getD s i 0) → length s ≡ length before → i < length d → Overwriting before s (set d i v) (i + 1)
+    overwrite-turn v e same h = record {
+      long = simp length-set (o .long);
+      within = simp length-set (omega arith);
+      rest = overwrite-step v e h (omega arith) ∙ o .rest;
+    }
+
+    over : length d ≤ i → take i d ++ overwritten (drop i d) (drop i s) ≡ d
+    unfolding overwritten
+    over h = rw (take-all, drop-of-length-le d, append-nil)
+
+    pub overwrite-ends : length d ≤ i → d ≡ overwritten before s
+    overwrite-ends h = sym (over h) ∙ o .rest
+
+-- what merging answers
+
+module _ (allowance : ℕ) (d s : List ℕ) where
+  pub unequal : (length d ≡ length s → ⊥) → MergedAs allowance d s Unequal d
+  unfolding mergedAlone
+  unequal h = record { answer = simp (ne-eqb _ _ h); left = simp (ne-eqb _ _ h) }
+
+  module _ (same : length d ≡ length s) where
+    pub too-short : length d ≤ 2 → MergedAs allowance d s Overlapping d
+    unfolding mergedAlone merged
+    too-short h = record { answer = simp (eq-eqb _ _ same, le-leb _ _ h); left = simp (eq-eqb _ _ same, le-leb _ _ h) }
+
+    module _ (long : 2 < length d) where
+      pub overlap : allowance < overlaps d s → MergedAs allowance d s Overlapping d
+      unfolding mergedAlone merged
+      overlap h = record { answer = simp (eq-eqb _ _ same, lt-leb _ _ long, lt-ltb _ _ h); left = simp (eq-eqb _ _ same, lt-leb _ _ long, lt-ltb _ _ h) }
+
+      pub merges : overlaps d s ≤ allowance → MergedAs allowance d s Done (overwritten d s)
+      unfolding mergedAlone merged
+      merges h = record { answer = simp (eq-eqb _ _ same, lt-leb _ _ long, le-ltb _ _ h); left = simp (eq-eqb _ _ same, lt-leb _ _ long, le-ltb _ _ h) }

@@ -1,0 +1,50 @@
+-- Merging: at one place, and what merging alone answers with the destination afterwards. Assumes nothing.
+use Prim.Native.Nat.{ℕ}
+use mathlib.Core.Path.{_≡_}
+use mathlib.Core.Bool.{cond, _||_}
+use mathlib.Core.Option.{Option, none, some}
+use mathlib.Core.List.{List}
+use lib.Dec.{eqb}
+use lib.ListN.{length}
+use Rattle.model.specs.Reading.{missing}
+use Rattle.model.specs.Row.{merged}
+use Rattle.merge.specs.declared.Merged.{Merged}
+use Rattle.merge.specs.declared.Merged.the-variants.{Done, Overlapping, Unequal}
+
+-- 1 where both are readings
+unfoldable pub bothOf : ℕ → ℕ → ℕ
+bothOf x y = cond (missing x || missing y) 0 1
+
+-- 01: the source's readings overwrite
+unfoldable pub sourceFirst : ℕ → ℕ → ℕ
+sourceFirst x y = cond (missing y) x y
+
+pub data Merging : Type 0 where
+  done : List ℕ → Merging  -- the merged row
+  overlapping : Merging
+  refused : ℕ → Merging  -- 01's number
+
+abbrev pub doneOr : Option (List ℕ) → Merging
+doneOr none = overlapping
+doneOr (some row) = done row
+
+-- 01: Merging alone answers 6 for rows of unequal length, else done or overlapping.
+unfoldable pub mergedAlone : ℕ → List ℕ → List ℕ → Merging
+mergedAlone allowance d s = cond (eqb (length d) (length s)) (doneOr (merged allowance d s)) (refused 6)
+
+-- 01: only done changes the destination row
+abbrev pub destination : Merging → List ℕ → List ℕ
+destination (done row) d = row
+destination overlapping d = d
+destination (refused n) d = d
+
+-- the code's answers, with 01's number; `row` is what the destination holds afterwards
+abbrev pub answered : Merged → List ℕ → Merging
+answered Done row = done row
+answered Overlapping row = overlapping
+answered Unequal row = refused 6
+
+-- merging s into d answers r and leaves `row`
+pub record MergedAs (allowance : ℕ) (d s : List ℕ) (r : Merged) (row : List ℕ) : Type 0 where
+  pub answer : answered r row ≡ mergedAlone allowance d s
+  pub left : row ≡ destination (mergedAlone allowance d s) d

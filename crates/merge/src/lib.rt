@@ -1,0 +1,68 @@
+// One row merged into another.
+ghost use mathlib.Core.Path.{_≡_};
+ghost use lib.ListN.{length};
+ghost use Rattle.model.specs.Row.{overlaps, overwritten};
+ghost use Rattle.merge.specs.Merging.{bothOf, sourceFirst, MergedAs};
+
+pub enum Merged {
+    Done,
+    Overlapping,
+    Unequal,
+}
+
+// 1 where both are readings, else 0.
+fn both(x: u64, y: u64) -> usize
+    ensures { λ r. ⌜ r ≡ bothOf x y ⌝ }
+{
+    (1 - (binaryop::gap(x) | binaryop::gap(y))) as usize
+}
+
+// At how many places both rows have a reading.
+fn overlaps(dst: &[u64], src: &[u64]) -> usize
+    requires { ⌜ length (now src) ≡ length (now dst) ⌝ }
+    ensures { λ r. ⌜ r ≡ overlaps (now (dst .entry)) (now (src .entry)) ⌝ }
+{
+    let mut n: usize = 0;
+    let mut i: usize = 0;
+    while i < dst.len() {
+        n += both(dst[i], src[i]);
+        i += 1;
+    }
+    n
+}
+
+// The source's reading where it has one, else what the destination has.
+fn source_first(x: u64, y: u64) -> u64
+    ensures { λ r. ⌜ r ≡ sourceFirst x y ⌝ }
+{
+    binaryop::pick(binaryop::is_missing(y), x, y)
+}
+
+// The source's readings over the destination's.
+fn overwrite(dst: &mut [u64], src: &[u64])
+    requires { ⌜ length (now src) ≡ length (now dst) ⌝ }
+    ensures { λ _. ⌜ now (dst .exit) ≡ overwritten (now (dst .entry)) (now (src .entry)) ⌝ }
+{
+    let mut i: usize = 0;
+    while i < dst.len() {
+        dst[i] = source_first(dst[i], src[i]);
+        i += 1;
+    }
+}
+
+// Merges src into dst where at most `allowance` places have both; the destination changes only then, so the places are counted first.
+pub fn merge_non_overlapping_timeseries(dst: &mut [u64], src: &[u64], allowance: usize) -> Merged
+    ensures { λ r. ⌜ MergedAs allowance (now (dst .entry)) (now (src .entry)) r (now (dst .exit)) ⌝ }
+{
+    if dst.len() != src.len() {
+        return Merged::Unequal;
+    }
+    if dst.len() <= 2 {
+        return Merged::Overlapping;
+    }
+    if overlaps(dst, src) > allowance {
+        return Merged::Overlapping;
+    }
+    overwrite(dst, src);
+    Merged::Done
+}
