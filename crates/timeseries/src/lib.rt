@@ -1,0 +1,1 @@
+// Vectors: taken from bytes and readings, their records, rows and keys.
