@@ -1,2 +1,4 @@
 pub mod Sides
 pub mod SideLaws
+pub mod Takes
+pub mod TakeLaws
