@@ -4,3 +4,4 @@ pub mod Parts
 pub mod Finding
 pub mod Searches
 pub mod Dropping
+pub mod Numbering

@@ -1,21 +1,24 @@
 -- Laws of key numbers: equal exactly where keys are, below the count, and the same over one side and over both. Assumes nothing.
-use Prim.Native.Nat.{ℕ, zero, suc, _+_, _≤_, _<_}
+use Prim.Native.Nat.{ℕ, zero, suc, _+_, _*_, _≤_, _<_}
 use mathlib.Core.Path.{_≡_, refl, sym, ap, _∙_}
 use mathlib.Core.Bool.{Bool, true, false}
 use mathlib.Core.List.{List, [], _∷_, _++_, map}
+use native.Mathlib.Nat.{zero-mul, suc-mul, add-comm}
 use native.Mathlib.Omega.{arith}
 use lib.Dec.{eqb}
-use lib.ListN.{length, getD, take, List·getD-append, length-append}
-use lib.Seq.{getD-append-add, take-append-add}
-use borrow.Author.Tests.{eqb-true, eq-eqb}
+use lib.ListN.{length, getD, take, drop, List·getD-append, length-append}
+use lib.Seq.{getD-append-add, take-append-add, drop-drop}
+use borrow.Author.Tests.{eqb-true, eq-eqb, ne-eqb}
 use Rattle.model.specs.Lists.{cases}
 use Rattle.model.specs.Labels.{Labels, sameTags}
 use Rattle.model.specs.Edits.{Names}
 use Rattle.model.specs.Query.{Matching, keyOf}
 use Rattle.model.specs.Laws.Booleans.{never}
 use Rattle.model.specs.Laws.Tags.{same-tags-is, same-tags-refl, is-same-tags}
+use Rattle.metric_name.specs.Lenient.{labelsOf}
+use Rattle.timeseries.specs.Sides.{labelsIn, rowAt}
 use Rattle.timeseries.specs.Places.{firstWhere, first-within, first-holds, first-found, first-take, first-left, first-right}
-use Rattle.timeseries.specs.Keys.{sameKeys, firstPlace, numbers}
+use Rattle.timeseries.specs.Keys.{sameKeys, firstPlace, numbers, Hashed, Numbered, dropped, keptNumber, droppedMissing}
 
 pub map-at : {A B : Type 0} (f : A → B) (xs : List A) (i : ℕ) (d : A) (e : B) → i < length xs → getD (map f xs) i e ≡ f (getD xs i d)
 map-at f [] i d e h = absurd (omega arith)
@@ -103,3 +106,63 @@ module _ (m : Matching) (ns : Names) where
       let here : getD (lefts ++ ls) (length lefts + i) d ≡ l = getD-append-add lefts ls i d in
       ap (firstWhere (λ k. sameKeys m ns k l)) (sym (take-append-add lefts ls i))
       ∙ first-take (λ k. sameKeys m ns k l) (lefts ++ ls) (length lefts + i) d (omega (arith, h, length-append lefts ls)) (rw here (same-tags-refl (keyOf m ns (l .tags))))
+
+-- two sides that are numbered
+
+module _ (m : Matching) (ns : Names) (all ls ks : List Labels) (i j : ℕ) (d : Labels) (hi : i < length ls) (hj : j < length ks) (a : Stands all (getD ls i d)) (b : Stands all (getD ks j d)) where
+  pub numbers-match : eqb (getD (numbers m ns all ls) i 0) (getD (numbers m ns all ks) j 0) ≡ sameKeys m ns (getD ls i d) (getD ks j d)
+  numbers-match = rw (number-at m ns all ls i d hi, number-at m ns all ks j d hj) (numbers-tell m ns all (getD ls i d) (getD ks j d) a b)
+
+  pub number-below : getD (numbers m ns all ls) i 0 < length all
+  number-below = rw (number-at m ns all ls i d hi) (place-found m ns all (getD ls i d) a)
+
+stands-on-left : (lefts rights : List Labels) (i : ℕ) (d : Labels) → i < length lefts → Stands (lefts ++ rights) (getD lefts i d)
+stands-on-left lefts rights i d h = stands-left lefts rights (getD lefts i d) (stands-at lefts i d h)
+
+stands-on-right : (lefts rights : List Labels) (i : ℕ) (d : Labels) → i < length rights → Stands (lefts ++ rights) (getD rights i d)
+stands-on-right lefts rights i d h = stands-right lefts rights (getD rights i d) (stands-at rights i d h)
+
+module _ (m : Matching) (ns : Names) (array at hashes keys : List ℕ) (n : Numbered m ns [] array at hashes keys) where
+  -- the left keys, numbered over the left side alone, are numbered over both
+  pub left-numbers : (ks : List Labels) → keys ≡ numbers m ns (labelsIn array at ++ ks) (labelsIn array at)
+  left-numbers ks = n .numbered ∙ sym (numbers-left m ns (labelsIn array at) ks)
+
+  module _ (array′ at′ hashes′ keys′ : List ℕ) (n′ : Numbered m ns (labelsIn array at) array′ at′ hashes′ keys′) where
+    -- equal numbers exactly where keys are equal: left and right, left and left, right and right
+    module _ (d : Labels) (i j : ℕ) where
+      pub left-right : i < length (labelsIn array at) → j < length (labelsIn array′ at′) → eqb (getD keys i 0) (getD keys′ j 0) ≡ sameKeys m ns (getD (labelsIn array at) i d) (getD (labelsIn array′ at′) j d)
+      left-right h k = rw (left-numbers (labelsIn array′ at′), n′ .numbered) (numbers-match m ns ((labelsIn array at) ++ (labelsIn array′ at′)) (labelsIn array at) (labelsIn array′ at′) i j d h k (stands-on-left (labelsIn array at) (labelsIn array′ at′) i d h) (stands-on-right (labelsIn array at) (labelsIn array′ at′) j d k))
+
+      pub left-left : i < length (labelsIn array at) → j < length (labelsIn array at) → eqb (getD keys i 0) (getD keys j 0) ≡ sameKeys m ns (getD (labelsIn array at) i d) (getD (labelsIn array at) j d)
+      left-left h k = rw (left-numbers (labelsIn array′ at′)) (numbers-match m ns ((labelsIn array at) ++ (labelsIn array′ at′)) (labelsIn array at) (labelsIn array at) i j d h k (stands-on-left (labelsIn array at) (labelsIn array′ at′) i d h) (stands-on-left (labelsIn array at) (labelsIn array′ at′) j d k))
+
+      pub right-right : i < length (labelsIn array′ at′) → j < length (labelsIn array′ at′) → eqb (getD keys′ i 0) (getD keys′ j 0) ≡ sameKeys m ns (getD (labelsIn array′ at′) i d) (getD (labelsIn array′ at′) j d)
+      right-right h k = rw (n′ .numbered) (numbers-match m ns ((labelsIn array at) ++ (labelsIn array′ at′)) (labelsIn array′ at′) (labelsIn array′ at′) i j d h k (stands-on-right (labelsIn array at) (labelsIn array′ at′) i d h) (stands-on-right (labelsIn array at) (labelsIn array′ at′) j d k))
+
+    pub left-below : (i : ℕ) → i < length (labelsIn array at) → getD keys i 0 < length (labelsIn array at) + length (labelsIn array′ at′)
+    left-below i h =
+        let d = (labelsOf []) in
+        rw (left-numbers (labelsIn array′ at′), ← length-append (labelsIn array at) (labelsIn array′ at′)) (number-below m ns ((labelsIn array at) ++ (labelsIn array′ at′)) (labelsIn array at) (labelsIn array at) i i d h h (stands-on-left (labelsIn array at) (labelsIn array′ at′) i d h) (stands-on-left (labelsIn array at) (labelsIn array′ at′) i d h))
+
+    pub right-below : (i : ℕ) → i < length (labelsIn array′ at′) → getD keys′ i 0 < length (labelsIn array at) + length (labelsIn array′ at′)
+    right-below i h =
+        let d = (labelsOf []) in
+        rw (n′ .numbered, ← length-append (labelsIn array at) (labelsIn array′ at′)) (number-below m ns ((labelsIn array at) ++ (labelsIn array′ at′)) (labelsIn array′ at′) (labelsIn array′ at′) i i d h h (stands-on-right (labelsIn array at) (labelsIn array′ at′) i d h) (stands-on-right (labelsIn array at) (labelsIn array′ at′) i d h))
+
+-- a series with only missing readings has a number that no key has
+
+pub dropped-count : (p : ℕ) (rows keys : List ℕ) → length (droppedMissing p rows keys) ≡ length keys
+unfolding droppedMissing
+dropped-count p rows [] = refl
+dropped-count p rows (k ∷ ks) = ap suc (dropped-count p (drop p rows) ks)
+
+pub dropped-at : (p : ℕ) (rows keys : List ℕ) (i : ℕ) → i < length keys → getD (droppedMissing p rows keys) i 0 ≡ keptNumber (rowAt rows p i) (getD keys i 0)
+unfolding droppedMissing
+dropped-at p rows [] i h = absurd (omega arith)
+dropped-at p rows (k ∷ ks) zero h = rw (zero-mul p)
+dropped-at p rows (k ∷ ks) (suc i) h =
+    let next : drop (suc i * p) rows ≡ drop (i * p) (drop p rows) = ap (λ (n : ℕ). drop n rows) (suc-mul i p ∙ add-comm (i * p) p) ∙ sym (drop-drop (i * p) p rows) in
+    rw next (dropped-at p (drop p rows) ks i (omega arith))
+
+pub dropped-apart : (k : ℕ) → k < 1024 → eqb k dropped ≡ false
+dropped-apart k h = ne-eqb k dropped (λ e. absurd (omega (arith, e)))

@@ -1,13 +1,10 @@
+-- `timeseries::drop_missing` meets its contract. Assumes nothing.
 use borrow.Author.Needs.{needs}
 use Prim.Native.Nat.{_-_}
 use lib.ListN.{length}
 use Rattle.timeseries.proofs.Dropping.{Dropping, drop-starts, drop-room, drop-turn, drop-ends}
 use Rattle.timeseries.proofs.drop_missing.Statement.{statement}
 use Rattle.timeseries.proofs.drop_missing.Tie as tie
-use Rattle.timeseries.proofs.drop_missing.Reads as reads
-use Rattle.timeseries.proofs.drop_missing.Lts as lts
-use Rattle.timeseries.proofs.number_kept.Reads as number-kept-reads
-use Rattle.timeseries.proofs.row.Reads as row-reads
 
 abbrev Inv-loop : tie.InvT-loop
 Inv-loop rows p keys₀ i₀ keys i = Dropping rows p keys₀ keys i
@@ -15,51 +12,39 @@ Inv-loop rows p keys₀ i₀ keys i = Dropping rows p keys₀ keys i
 abbrev μ-loop : tie.MeasureT-loop
 μ-loop rows p keys₀ i₀ keys i = length keys₀ - i
 
--- src/lib.rt:283:5
 loop-holds : tie.Need-loop-holds Inv-loop μ-loop
 loop-holds c = search drop-starts
 
--- src/lib.rt:284:31
 row-requires : tie.Need-row-requires Inv-loop μ-loop
 row-requires c κs = search drop-room
 
--- src/lib.rt:284:48
 mul-number-kept : tie.Need-mul-number-kept Inv-loop μ-loop
 mul-number-kept c = search needs
 
--- src/lib.rt:284:48
 slice-read-number-kept : tie.Need-slice-read-number-kept Inv-loop μ-loop
 slice-read-number-kept c = search needs
 
--- src/lib.rt:284:19
 number-kept-requires : tie.Need-number-kept-requires Inv-loop μ-loop
 number-kept-requires c κs = search needs
 
--- src/lib.rt:284:9
 mul-keys : tie.Need-mul-keys Inv-loop μ-loop
 mul-keys c = search needs
 
--- src/lib.rt:284:9
 slice-write-keys : tie.Need-slice-write-keys Inv-loop μ-loop
 slice-write-keys c = search needs
 
--- src/lib.rt:285:9
 add-i : tie.Need-add-i Inv-loop μ-loop
 add-i c = search needs
 
--- src/lib.rt:283:5
 loop-less : tie.Need-loop-less Inv-loop μ-loop
 loop-less c = search needs
 
--- src/lib.rt:283:5
 loop-again : tie.Need-loop-again Inv-loop μ-loop
 loop-again c = search drop-turn
 
--- src/lib.rt:278:1
 same-length : tie.Need-same-length Inv-loop μ-loop
 same-length c = search needs
 
--- src/lib.rt:278:1
 returns : tie.Need-returns Inv-loop μ-loop
 returns c = search drop-ends
 

@@ -1,11 +1,10 @@
+-- `timeseries::first_of` meets its contract. Assumes nothing.
 use borrow.Author.Needs.{needs}
 use Prim.Native.Nat.{_-_}
 use lib.ListN.{length}
 use Rattle.timeseries.proofs.Searches.{Ahead, first-starts, first-turn, first-here, first-ends}
 use Rattle.timeseries.proofs.first_of.Statement.{statement}
 use Rattle.timeseries.proofs.first_of.Tie as tie
-use Rattle.timeseries.proofs.first_of.Reads as reads
-use Rattle.timeseries.proofs.first_of.Lts as lts
 
 abbrev Inv-loop : tie.InvT-loop
 Inv-loop keys k i₀ i = Ahead keys k i
@@ -13,35 +12,27 @@ Inv-loop keys k i₀ i = Ahead keys k i
 abbrev μ-loop : tie.MeasureT-loop
 μ-loop keys k i₀ i = length keys - i
 
--- src/lib.rt:294:5
 loop-holds : tie.Need-loop-holds Inv-loop μ-loop
 loop-holds c = search first-starts
 
--- src/lib.rt:295:12
 mul-if1 : tie.Need-mul-if1 Inv-loop μ-loop
 mul-if1 c = search needs
 
--- src/lib.rt:295:12
 shared-slice-read-if1 : tie.Need-shared-slice-read-if1 Inv-loop μ-loop
 shared-slice-read-if1 c = search needs
 
--- src/lib.rt:296:13
 returns : tie.Need-returns Inv-loop μ-loop
 returns c = search first-here
 
--- src/lib.rt:298:9
 add-i : tie.Need-add-i Inv-loop μ-loop
 add-i c = search needs
 
--- src/lib.rt:294:5
 loop-less : tie.Need-loop-less Inv-loop μ-loop
 loop-less c = search needs
 
--- src/lib.rt:294:5
 loop-again : tie.Need-loop-again Inv-loop μ-loop
 loop-again c = search first-turn
 
--- src/lib.rt:290:1
 returns-2 : tie.Need-returns-2 Inv-loop μ-loop
 returns-2 c = search first-ends
 

@@ -1,43 +1,33 @@
+-- `timeseries::record` meets its contract. Assumes nothing.
 use borrow.Author.Needs.{needs}
 use Rattle.timeseries.proofs.Parts.{record-order, record-end, record-part}
 use Rattle.timeseries.proofs.record.Statement.{statement}
 use Rattle.timeseries.proofs.record.Tie as tie
-use Rattle.timeseries.proofs.record.Reads as reads
-use Rattle.timeseries.proofs.record.Lts as lts
 
--- src/lib.rt:117:13
 mul-a : tie.Need-mul-a
 mul-a c = search needs
 
--- src/lib.rt:117:13
 shared-slice-read-a : tie.Need-shared-slice-read-a
 shared-slice-read-a c = search needs
 
--- src/lib.rt:118:16
 add-e : tie.Need-add-e
 add-e c = search needs
 
--- src/lib.rt:118:13
 mul-e : tie.Need-mul-e
 mul-e c = search needs
 
--- src/lib.rt:118:13
 shared-slice-read-e : tie.Need-shared-slice-read-e
 shared-slice-read-e c = search needs
 
--- src/lib.rt:119:5
 sub-result : tie.Need-sub-result
 sub-result c = search record-order
 
--- src/lib.rt:119:5
 part-result-start : tie.Need-part-result-start
 part-result-start c = search record-order
 
--- src/lib.rt:119:5
 part-result-end : tie.Need-part-result-end
 part-result-end c = search record-end
 
--- src/lib.rt:112:1
 returns : tie.Need-returns
 returns c = search record-part
 

@@ -1,40 +1,30 @@
+-- `timeseries::two_bytes_at` meets its contract. Assumes nothing.
 use borrow.Author.Needs.{needs}
 use Rattle.timeseries.proofs.Taking.{two-bytes-read}
 use Rattle.timeseries.proofs.two_bytes_at.Statement.{statement}
 use Rattle.timeseries.proofs.two_bytes_at.Tie as tie
-use Rattle.timeseries.proofs.two_bytes_at.Reads as reads
-use Rattle.timeseries.proofs.two_bytes_at.Lts as lts
-use Rattle.timeseries.proofs.wide.Reads as wide-reads
 
--- src/lib.rt:24:10
 shared-slice-read-wide : tie.Need-shared-slice-read-wide
 shared-slice-read-wide c = search needs
 
--- src/lib.rt:24:5
 wide-requires : tie.Need-wide-requires
 wide-requires c κs = search needs
 
--- src/lib.rt:24:32
 add-wide : tie.Need-add-wide
 add-wide c = search needs
 
--- src/lib.rt:24:30
 shared-slice-read-wide-2 : tie.Need-shared-slice-read-wide-2
 shared-slice-read-wide-2 c = search needs
 
--- src/lib.rt:24:25
 wide-requires-2 : tie.Need-wide-requires-2
 wide-requires-2 c κs = search needs
 
--- src/lib.rt:24:19
 mul-result : tie.Need-mul-result
 mul-result c = search needs
 
--- src/lib.rt:24:5
 add-result : tie.Need-add-result
 add-result c = search needs
 
--- src/lib.rt:20:1
 returns : tie.Need-returns
 returns c = search two-bytes-read
 

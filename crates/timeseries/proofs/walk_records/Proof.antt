@@ -1,11 +1,9 @@
+-- `timeseries::walk_records` meets its contract. Assumes nothing.
 use borrow.Author.Needs.{needs}
 use Prim.Native.Nat.{_-_}
 use Rattle.timeseries.proofs.Walking.{Walking, walk-starts, walk-cut, walk-bad, walk-turn, walk-over, walk-whole}
 use Rattle.timeseries.proofs.walk_records.Statement.{statement}
 use Rattle.timeseries.proofs.walk_records.Tie as tie
-use Rattle.timeseries.proofs.walk_records.Reads as reads
-use Rattle.timeseries.proofs.walk_records.Lts as lts
-use Rattle.metric_name.proofs.read_record.Reads as read-record-reads
 
 abbrev Inv-loop : tie.InvT-loop
 Inv-loop array n at₀ i₀ p₀ at i p = Walking array n at₀ at i p
@@ -13,67 +11,51 @@ Inv-loop array n at₀ i₀ p₀ at i p = Walking array n at₀ at i p
 abbrev μ-loop : tie.MeasureT-loop
 μ-loop array n at₀ i₀ p₀ at i p = n - i
 
--- src/lib.rt:35:5
 loop-holds : tie.Need-loop-holds Inv-loop μ-loop
 loop-holds c = search walk-starts
 
--- src/lib.rt:36:9
 mul-at : tie.Need-mul-at Inv-loop μ-loop
 mul-at c = search needs
 
--- src/lib.rt:36:9
 element-write-at : tie.Need-element-write-at Inv-loop μ-loop
 element-write-at c = search needs
 
--- src/lib.rt:37:15
 read-record-requires : tie.Need-read-record-requires Inv-loop μ-loop
 read-record-requires c κs = search needs
 
--- src/lib.rt:38:26
 enum-known-next : tie.Need-enum-known-next Inv-loop μ-loop
 enum-known-next c = search needs
 
--- src/lib.rt:40:17
 add-i : tie.Need-add-i Inv-loop μ-loop
 add-i c = search needs
 
--- src/lib.rt:35:5
 loop-less : tie.Need-loop-less Inv-loop μ-loop
 loop-less c = search needs
 
--- src/lib.rt:35:5
 loop-again : tie.Need-loop-again Inv-loop μ-loop
 loop-again c = search walk-turn
 
--- src/lib.rt:42:28
 enum-told : tie.Need-enum-told Inv-loop μ-loop
 enum-told c = search needs
 
--- src/lib.rt:42:28
 returns : tie.Need-returns Inv-loop μ-loop
 returns c = search walk-cut
 
--- src/lib.rt:43:31
 enum-told-2 : tie.Need-enum-told-2 Inv-loop μ-loop
 enum-told-2 c = search needs
 
--- src/lib.rt:43:31
 returns-2 : tie.Need-returns-2 Inv-loop μ-loop
 returns-2 c = search walk-bad
 
--- src/lib.rt:46:5
 mul-at-2 : tie.Need-mul-at-2 Inv-loop μ-loop
 mul-at-2 c = search needs
 
--- src/lib.rt:46:5
 element-write-at-2 : tie.Need-element-write-at-2 Inv-loop μ-loop
 element-write-at-2 c = search needs
 
--- src/lib.rt:48:9
 returns-3 : tie.Need-returns-3 Inv-loop μ-loop
 returns-3 c = search walk-over
 
--- src/lib.rt:29:1
 returns-4 : tie.Need-returns-4 Inv-loop μ-loop
 returns-4 c = search walk-whole
 
