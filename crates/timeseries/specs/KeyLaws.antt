@@ -15,10 +15,9 @@ use Rattle.model.specs.Edits.{Names}
 use Rattle.model.specs.Query.{Matching, keyOf}
 use Rattle.model.specs.Laws.Booleans.{never}
 use Rattle.model.specs.Laws.Tags.{same-tags-is, same-tags-refl, is-same-tags}
-use Rattle.metric_name.specs.Lenient.{labelsOf}
-use Rattle.timeseries.specs.Sides.{labelsIn, rowAt}
+use Rattle.timeseries.specs.Sides.{rowAt}
 use Rattle.timeseries.specs.Places.{firstWhere, first-within, first-holds, first-found, first-take, first-left, first-right}
-use Rattle.timeseries.specs.Keys.{sameKeys, firstPlace, numbers, Hashed, Numbered, dropped, keptNumber, droppedMissing}
+use Rattle.timeseries.specs.Keys.{sameKeys, firstPlace, numbers, dropped, keptNumber, droppedMissing}
 
 pub map-at : {A B : Type 0} (f : A → B) (xs : List A) (i : ℕ) (d : A) (e : B) → i < length xs → getD (map f xs) i e ≡ f (getD xs i d)
 map-at f [] i d e h = absurd (omega arith)
@@ -116,38 +115,33 @@ module _ (m : Matching) (ns : Names) (all ls ks : List Labels) (i j : ℕ) (d : 
   pub number-below : getD (numbers m ns all ls) i 0 < length all
   number-below = rw (number-at m ns all ls i d hi) (place-found m ns all (getD ls i d) a)
 
-stands-on-left : (lefts rights : List Labels) (i : ℕ) (d : Labels) → i < length lefts → Stands (lefts ++ rights) (getD lefts i d)
-stands-on-left lefts rights i d h = stands-left lefts rights (getD lefts i d) (stands-at lefts i d h)
+-- the left keys, numbered over the left side alone, and the right ones, numbered over both
+module _ (m : Matching) (ns : Names) (lefts rights : List Labels) (keys keys′ : List ℕ) (hl : keys ≡ numbers m ns lefts lefts) (hr : keys′ ≡ numbers m ns (lefts ++ rights) rights) where
+  left-over-both : keys ≡ numbers m ns (lefts ++ rights) lefts
+  left-over-both = hl ∙ sym (numbers-left m ns lefts rights)
 
-stands-on-right : (lefts rights : List Labels) (i : ℕ) (d : Labels) → i < length rights → Stands (lefts ++ rights) (getD rights i d)
-stands-on-right lefts rights i d h = stands-right lefts rights (getD rights i d) (stands-at rights i d h)
+  on-left : (i : ℕ) (d : Labels) → i < length lefts → Stands (lefts ++ rights) (getD lefts i d)
+  on-left i d h = stands-left lefts rights (getD lefts i d) (stands-at lefts i d h)
 
-module _ (m : Matching) (ns : Names) (array at hashes keys : List ℕ) (n : Numbered m ns [] array at hashes keys) where
-  -- the left keys, numbered over the left side alone, are numbered over both
-  pub left-numbers : (ks : List Labels) → keys ≡ numbers m ns (labelsIn array at ++ ks) (labelsIn array at)
-  left-numbers ks = n .numbered ∙ sym (numbers-left m ns (labelsIn array at) ks)
+  on-right : (i : ℕ) (d : Labels) → i < length rights → Stands (lefts ++ rights) (getD rights i d)
+  on-right i d h = stands-right lefts rights (getD rights i d) (stands-at rights i d h)
 
-  module _ (array′ at′ hashes′ keys′ : List ℕ) (n′ : Numbered m ns (labelsIn array at) array′ at′ hashes′ keys′) where
-    -- equal numbers exactly where keys are equal: left and right, left and left, right and right
-    module _ (d : Labels) (i j : ℕ) where
-      pub left-right : i < length (labelsIn array at) → j < length (labelsIn array′ at′) → eqb (getD keys i 0) (getD keys′ j 0) ≡ sameKeys m ns (getD (labelsIn array at) i d) (getD (labelsIn array′ at′) j d)
-      left-right h k = rw (left-numbers (labelsIn array′ at′), n′ .numbered) (numbers-match m ns ((labelsIn array at) ++ (labelsIn array′ at′)) (labelsIn array at) (labelsIn array′ at′) i j d h k (stands-on-left (labelsIn array at) (labelsIn array′ at′) i d h) (stands-on-right (labelsIn array at) (labelsIn array′ at′) j d k))
+  -- equal numbers exactly where keys are equal
+  module _ (d : Labels) (i j : ℕ) where
+    pub left-right : i < length lefts → j < length rights → eqb (getD keys i 0) (getD keys′ j 0) ≡ sameKeys m ns (getD lefts i d) (getD rights j d)
+    left-right h k = rw (left-over-both, hr) (numbers-match m ns (lefts ++ rights) lefts rights i j d h k (on-left i d h) (on-right j d k))
 
-      pub left-left : i < length (labelsIn array at) → j < length (labelsIn array at) → eqb (getD keys i 0) (getD keys j 0) ≡ sameKeys m ns (getD (labelsIn array at) i d) (getD (labelsIn array at) j d)
-      left-left h k = rw (left-numbers (labelsIn array′ at′)) (numbers-match m ns ((labelsIn array at) ++ (labelsIn array′ at′)) (labelsIn array at) (labelsIn array at) i j d h k (stands-on-left (labelsIn array at) (labelsIn array′ at′) i d h) (stands-on-left (labelsIn array at) (labelsIn array′ at′) j d k))
+    pub left-left : i < length lefts → j < length lefts → eqb (getD keys i 0) (getD keys j 0) ≡ sameKeys m ns (getD lefts i d) (getD lefts j d)
+    left-left h k = rw left-over-both (numbers-match m ns (lefts ++ rights) lefts lefts i j d h k (on-left i d h) (on-left j d k))
 
-      pub right-right : i < length (labelsIn array′ at′) → j < length (labelsIn array′ at′) → eqb (getD keys′ i 0) (getD keys′ j 0) ≡ sameKeys m ns (getD (labelsIn array′ at′) i d) (getD (labelsIn array′ at′) j d)
-      right-right h k = rw (n′ .numbered) (numbers-match m ns ((labelsIn array at) ++ (labelsIn array′ at′)) (labelsIn array′ at′) (labelsIn array′ at′) i j d h k (stands-on-right (labelsIn array at) (labelsIn array′ at′) i d h) (stands-on-right (labelsIn array at) (labelsIn array′ at′) j d k))
+    pub right-right : i < length rights → j < length rights → eqb (getD keys′ i 0) (getD keys′ j 0) ≡ sameKeys m ns (getD rights i d) (getD rights j d)
+    right-right h k = rw hr (numbers-match m ns (lefts ++ rights) rights rights i j d h k (on-right i d h) (on-right j d k))
 
-    pub left-below : (i : ℕ) → i < length (labelsIn array at) → getD keys i 0 < length (labelsIn array at) + length (labelsIn array′ at′)
-    left-below i h =
-        let d = (labelsOf []) in
-        rw (left-numbers (labelsIn array′ at′), ← length-append (labelsIn array at) (labelsIn array′ at′)) (number-below m ns ((labelsIn array at) ++ (labelsIn array′ at′)) (labelsIn array at) (labelsIn array at) i i d h h (stands-on-left (labelsIn array at) (labelsIn array′ at′) i d h) (stands-on-left (labelsIn array at) (labelsIn array′ at′) i d h))
+  pub left-below : (d : Labels) (i : ℕ) → i < length lefts → getD keys i 0 < length lefts + length rights
+  left-below d i h = rw (left-over-both, ← length-append lefts rights) (number-below m ns (lefts ++ rights) lefts lefts i i d h h (on-left i d h) (on-left i d h))
 
-    pub right-below : (i : ℕ) → i < length (labelsIn array′ at′) → getD keys′ i 0 < length (labelsIn array at) + length (labelsIn array′ at′)
-    right-below i h =
-        let d = (labelsOf []) in
-        rw (n′ .numbered, ← length-append (labelsIn array at) (labelsIn array′ at′)) (number-below m ns ((labelsIn array at) ++ (labelsIn array′ at′)) (labelsIn array′ at′) (labelsIn array′ at′) i i d h h (stands-on-right (labelsIn array at) (labelsIn array′ at′) i d h) (stands-on-right (labelsIn array at) (labelsIn array′ at′) i d h))
+  pub right-below : (d : Labels) (i : ℕ) → i < length rights → getD keys′ i 0 < length lefts + length rights
+  right-below d i h = rw (hr, ← length-append lefts rights) (number-below m ns (lefts ++ rights) rights rights i i d h h (on-right i d h) (on-right i d h))
 
 -- a series with only missing readings has a number that no key has
 

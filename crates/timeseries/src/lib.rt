@@ -35,14 +35,14 @@ fn two_bytes_at(s: &[u8], at: usize) -> usize
 }
 
 // What the records of a label array come to.
-pub enum Walked {
+enum Walked {
     Whole,
     Cut(usize),
     BadKey(usize),
 }
 
 // Walks n records, with no bytes behind them, and notes where each starts and where the last ends.
-pub fn walk_records(array: &[u8], n: usize, at: &mut [usize; 513]) -> Walked
+fn walk_records(array: &[u8], n: usize, at: &mut [usize; 513]) -> Walked
     requires { ⌜ n ≤ 512 ⌝ }
     ensures { λ r. ⌜ WalkedInto n (now (array .entry)) (now (at .entry)) r (now (at .exit)) ⌝ }
 {
@@ -300,11 +300,11 @@ pub fn first_of(keys: &[usize], k: usize) -> usize
 pub fn last_of(keys: &[usize], k: usize) -> usize
     ensures { λ r. ⌜ r ≡ lastOf (now (keys .entry)) k ⌝ }
 {
-    let mut i = keys.len();
-    while 0 < i {
-        i -= 1;
-        if keys[i] == k {
-            return i;
+    let mut j = keys.len();
+    while 0 < j {
+        j -= 1;
+        if keys[j] == k {
+            return j;
         }
     }
     keys.len()

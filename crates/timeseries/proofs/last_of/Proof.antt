@@ -7,16 +7,16 @@ use Rattle.timeseries.proofs.last_of.Statement.{statement}
 use Rattle.timeseries.proofs.last_of.Tie as tie
 
 abbrev Inv-loop : tie.InvT-loop
-Inv-loop keys k i₀ i = Behind keys k i
+Inv-loop keys k j₀ j = Behind keys k j
 
 abbrev μ-loop : tie.MeasureT-loop
-μ-loop keys k i₀ i = i
+μ-loop keys k j₀ j = j
 
 loop-holds : tie.Need-loop-holds Inv-loop μ-loop
 loop-holds c = search last-starts
 
-sub-i : tie.Need-sub-i Inv-loop μ-loop
-sub-i c = search needs
+sub-j : tie.Need-sub-j Inv-loop μ-loop
+sub-j c = search needs
 
 mul-if1 : tie.Need-mul-if1 Inv-loop μ-loop
 mul-if1 c = search needs
@@ -43,7 +43,7 @@ last-of-spec =
     Inv-loop
     μ-loop
     loop-holds
-    sub-i
+    sub-j
     mul-if1
     shared-slice-read-if1
     returns
