@@ -8,11 +8,11 @@ use lib.ListN.{length, take, drop, length-append, length-drop}
 use lib.Seq.{take-at, length-take-le}
 use Rattle.model.specs.Record.{encodeField}
 use Rattle.model.specs.Laws.Record.{field-read}
-use Rattle.metric_name.specs.Fields.{fieldAt}
+use Rattle.labels.specs.Fields.{fieldAt}
 use Rattle.metric_name.specs.Lenient.{labelsOf}
-use Rattle.metric_name.specs.declared.Place.{Place}
-use Rattle.metric_name.specs.declared.Place.the-variants.{At, Short}
-use Rattle.metric_name.proofs.Fields.{placed, unplaced, Placed}
+use Rattle.labels.specs.declared.Place.{Place}
+use Rattle.labels.specs.declared.Place.the-variants.{At, Short}
+use Rattle.labels.proofs.Fields.{placed, unplaced, Placed}
 use Rattle.label_edits.specs.Written.{Put}
 
 -- what is written of a name

@@ -16,7 +16,7 @@ use Rattle.model.specs.Query.{Matching, keyOf}
 use Rattle.model.specs.Laws.Record.{field-read}
 use Rattle.metric_name.specs.Lenient.{tagsUpTo, tagsCounted, labelsOf}
 use Rattle.metric_name.specs.Cursors.{encodeTag, encode-tag, tagAt, Standing, NextAt, Sieve}
-use Rattle.metric_name.specs.Keys.{isChosen, key-sieve}
+use Rattle.signature.specs.Keys.{isChosen, key-sieve}
 use Rattle.metric_name.specs.declared.Next.{Next}
 use Rattle.metric_name.specs.declared.Next.the-variants as N
 use Rattle.metric_name.proofs.Cursors.{next-stands, next-tags, next-ended}

@@ -1,7 +1,8 @@
 // Label records with some of their tags: sizes without writing, and writing at a place, with no work array.
-use metric_name::Matching;
+use labels::Matching;
+use labels::Place;
 use metric_name::Next;
-use metric_name::Place;
+use operator::Operator;
 ghost use mathlib.Core.Path.{_≡_};
 ghost use mathlib.Core.Bool.{cond};
 ghost use mathlib.Core.List.{[], _∷_};
@@ -9,10 +10,10 @@ ghost use Prim.Native.Nat.{_+_, _-_, _≤_, _<_};
 ghost use lib.ListN.{length};
 ghost use Rattle.model.specs.Record.{encodeField, encodeTags, encode};
 ghost use Rattle.model.specs.Edits.{removeTagsOn, removeTagsIgnoring};
-ghost use Rattle.metric_name.specs.Names.{namesOf};
+ghost use Rattle.labels.specs.Names.{namesOf};
 ghost use Rattle.metric_name.specs.Lenient.{labelsOf};
-ghost use Rattle.metric_name.specs.Matchings.{matchingOf};
-ghost use Rattle.metric_name.specs.Keys.{recordKey};
+ghost use Rattle.labels.specs.Matchings.{matchingOf};
+ghost use Rattle.signature.specs.Keys.{recordKey};
 ghost use Rattle.label_edits.specs.Written.{Put};
 ghost use Rattle.label_edits.specs.Edited.{kept, TagsSized, Sized};
 
@@ -45,7 +46,7 @@ pub fn name_size(rec: &[u8], keep: bool) -> usize
     ensures { λ r. ⌜ r ≡ length (encodeField (cond keep (labelsOf (now (rec .entry)) .name) [])) ⌝ }
 {
     if keep {
-        match metric_name::field_at(rec, 0) {
+        match labels::field_at(rec, 0) {
             Place::At { start: _, end } => end,
             Place::Short => 1,
         }
@@ -60,7 +61,7 @@ pub fn put_name(out: &mut [u8], at: usize, rec: &[u8], keep: bool) -> usize
     ensures { λ r. ⌜ Put (now (out .entry)) at (encodeField (cond keep (labelsOf (now (rec .entry)) .name) [])) (now (out .exit)) r ⌝ }
 {
     if keep {
-        match metric_name::field_at(rec, 0) {
+        match labels::field_at(rec, 0) {
             Place::At { start: _, end } => put_bytes(out, at, &rec[..end]),
             Place::Short => put_byte(out, at, 0),
         }
@@ -76,7 +77,7 @@ pub struct Size {
 }
 
 // The tags of a record's key.
-pub fn chosen_size(rec: &[u8], matching: Matching, list: &[u8]) -> Size
+fn chosen_size(rec: &[u8], matching: Matching, list: &[u8]) -> Size
     ensures { λ r. ⌜ TagsSized (recordKey (matchingOf matching) (now (list .entry)) (now (rec .entry))) r ⌝ }
 {
     let t = metric_name::tags_of(rec);
@@ -91,7 +92,7 @@ pub fn chosen_size(rec: &[u8], matching: Matching, list: &[u8]) -> Size
             key_end: _,
             end,
             left,
-        } = metric_name::next_chosen(rec, p, n, matching, list)
+        } = signature::next_chosen(rec, p, n, matching, list)
         else {
             return Size { tags, bytes };
         };
@@ -103,7 +104,7 @@ pub fn chosen_size(rec: &[u8], matching: Matching, list: &[u8]) -> Size
 }
 
 // Writes the tags of a record's key.
-pub fn put_chosen(out: &mut [u8], at: usize, rec: &[u8], matching: Matching, list: &[u8]) -> usize
+fn put_chosen(out: &mut [u8], at: usize, rec: &[u8], matching: Matching, list: &[u8]) -> usize
     requires { ⌜ at + length (encodeTags (recordKey (matchingOf matching) (now list) (now rec))) ≤ length (now out) ⌝ }
     ensures { λ r. ⌜ Put (now (out .entry)) at (encodeTags (recordKey (matchingOf matching) (now (list .entry)) (now (rec .entry)))) (now (out .exit)) r ⌝ }
 {
@@ -118,7 +119,7 @@ pub fn put_chosen(out: &mut [u8], at: usize, rec: &[u8], matching: Matching, lis
             key_end: _,
             end,
             left,
-        } = metric_name::next_chosen(rec, p, n, matching, list)
+        } = signature::next_chosen(rec, p, n, matching, list)
         else {
             return o;
         };
@@ -162,7 +163,7 @@ pub fn put_kept(
 pub fn remove_tags_on_size(rec: &[u8], list: &[u8]) -> Size
     ensures { λ r. ⌜ Sized (removeTagsOn (namesOf (now (list .entry))) (labelsOf (now (rec .entry)))) r ⌝ }
 {
-    let named = metric_name::in_list(list, b"__name__");
+    let named = labels::in_list(list, &Operator::METRIC_NAME);
     kept_size(rec, Matching::On, list, named)
 }
 
@@ -170,14 +171,14 @@ pub fn remove_tags_on(out: &mut [u8], at: usize, rec: &[u8], list: &[u8]) -> usi
     requires { ⌜ at + length (encode (removeTagsOn (namesOf (now list)) (labelsOf (now rec)))) ≤ length (now out) ⌝ }
     ensures { λ r. ⌜ Put (now (out .entry)) at (encode (removeTagsOn (namesOf (now (list .entry))) (labelsOf (now (rec .entry))))) (now (out .exit)) r ⌝ }
 {
-    let named = metric_name::in_list(list, b"__name__");
+    let named = labels::in_list(list, &Operator::METRIC_NAME);
     put_kept(out, at, rec, Matching::On, list, named)
 }
 
 pub fn remove_tags_ignoring_size(rec: &[u8], list: &[u8]) -> Size
     ensures { λ r. ⌜ Sized (removeTagsIgnoring (namesOf (now (list .entry))) (labelsOf (now (rec .entry)))) r ⌝ }
 {
-    let named = metric_name::in_list(list, b"__name__");
+    let named = labels::in_list(list, &Operator::METRIC_NAME);
     kept_size(rec, Matching::Ignoring, list, !named)
 }
 
@@ -185,6 +186,6 @@ pub fn remove_tags_ignoring(out: &mut [u8], at: usize, rec: &[u8], list: &[u8]) 
     requires { ⌜ at + length (encode (removeTagsIgnoring (namesOf (now list)) (labelsOf (now rec)))) ≤ length (now out) ⌝ }
     ensures { λ r. ⌜ Put (now (out .entry)) at (encode (removeTagsIgnoring (namesOf (now (list .entry))) (labelsOf (now (rec .entry))))) (now (out .exit)) r ⌝ }
 {
-    let named = metric_name::in_list(list, b"__name__");
+    let named = labels::in_list(list, &Operator::METRIC_NAME);
     put_kept(out, at, rec, Matching::Ignoring, list, !named)
 }

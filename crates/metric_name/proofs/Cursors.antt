@@ -12,14 +12,14 @@ use lib.Seq.{drop-cons, take-at}
 use Rattle.model.specs.Labels.{Tag}
 use Rattle.model.specs.Record.{field, readField, encodeField}
 use Rattle.model.specs.Laws.Record.{field-read}
-use Rattle.metric_name.specs.Fields.{fieldAt}
+use Rattle.labels.specs.Fields.{fieldAt}
 use Rattle.metric_name.specs.Lenient.{tagsUpTo, labelsOf}
 use Rattle.metric_name.specs.Cursors.{TagsOf, encodeTag, tagAt, Standing, StandingNext, NextAt, every, Sieve}
-use Rattle.metric_name.specs.declared.Place.{Place}
-use Rattle.metric_name.specs.declared.Place.the-variants.{At, Short}
+use Rattle.labels.specs.declared.Place.{Place}
+use Rattle.labels.specs.declared.Place.the-variants.{At, Short}
 use Rattle.metric_name.specs.declared.Next.{Next}
 use Rattle.metric_name.specs.declared.Next.the-variants as N
-use Rattle.metric_name.proofs.Fields.{placed, unplaced, Placed, more}
+use Rattle.labels.proofs.Fields.{placed, unplaced, Placed, more}
 
 -- `tags_of`
 module _ (s : List ℕ) (x : Place) (hx : x ≡ fieldAt s 0) where

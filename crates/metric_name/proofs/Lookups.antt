@@ -11,13 +11,13 @@ use lib.ListN.{length, take, drop}
 use Rattle.model.specs.Labels.{sameBytes, nameLabel, valueOf}
 use Rattle.model.specs.Record.{Decoded, decoded, cut, badKey, decode, Lookup, present, foundAs, lookupIn, lookup, valuePart}
 use Rattle.model.specs.Laws.SetTags.{isNone}
-use Rattle.metric_name.specs.Fields.{fieldAt}
+use Rattle.labels.specs.Fields.{fieldAt}
 use Rattle.metric_name.specs.Lenient.{tagsUpTo, labelsOf, labels-decoded}
 use Rattle.metric_name.specs.Cursors.{NextAt, every}
 use Rattle.metric_name.specs.Records.{recordOf, refusalOf}
 use Rattle.metric_name.specs.Lookups.{stateOf, stateNumber, FoundAt, valueFrom, lookupAt, ValueWithin, ValueAt}
-use Rattle.metric_name.specs.declared.Place.{Place}
-use Rattle.metric_name.specs.declared.Place.the-variants.{At, Short}
+use Rattle.labels.specs.declared.Place.{Place}
+use Rattle.labels.specs.declared.Place.the-variants.{At, Short}
 use Rattle.metric_name.specs.declared.Next.{Next}
 use Rattle.metric_name.specs.declared.Next.the-variants as N
 use Rattle.metric_name.specs.declared.Record.{Record}
@@ -26,7 +26,7 @@ use Rattle.metric_name.specs.declared.Value.{Value}
 use Rattle.metric_name.specs.declared.Value.the-variants as Vs
 use Rattle.metric_name.specs.declared.TagState.{TagState}
 use Rattle.metric_name.specs.declared.TagState.the-variants as S
-use Rattle.metric_name.proofs.Fields.{placed, unplaced, Placed}
+use Rattle.labels.proofs.Fields.{placed, unplaced, Placed}
 use Rattle.metric_name.proofs.Cursors.{next-stands, next-tags, next-ended}
 
 module _ (s : List ℕ) (x : Place) (hx : x ≡ fieldAt s 0) where

@@ -9,13 +9,13 @@ use lib.Seq.{drop-cons}
 use borrow.Author.Tests.{le-leb, lt-leb}
 use Rattle.model.specs.Labels.{ascending}
 use Rattle.model.specs.Record.{RawTags, cutTags, rawTags, decodeTags, judged, decode, decoded, badKey}
-use Rattle.metric_name.specs.Fields.{fieldAt}
+use Rattle.labels.specs.Fields.{fieldAt}
 use Rattle.metric_name.specs.Records.{recordOf, tagsJudged}
-use Rattle.metric_name.specs.declared.Place.{Place}
-use Rattle.metric_name.specs.declared.Place.the-variants.{At, Short}
+use Rattle.labels.specs.declared.Place.{Place}
+use Rattle.labels.specs.declared.Place.the-variants.{At, Short}
 use Rattle.metric_name.specs.declared.Record.{Record}
 use Rattle.metric_name.specs.declared.Record.the-variants.{Ok, Cut, BadKey}
-use Rattle.metric_name.proofs.Fields.{placed, unplaced}
+use Rattle.labels.proofs.Fields.{placed, unplaced}
 
 -- a record comes to what its tags come to
 judged-as : (size : ℕ) (x : List ℕ) (w : RawTags) → recordOf size (judged x w) ≡ tagsJudged size true [] w

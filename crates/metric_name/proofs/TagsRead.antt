@@ -7,13 +7,13 @@ use native.Mathlib.Omega.{arith}
 use lib.ListN.{length, take, drop, length-drop}
 use Rattle.model.specs.Labels.{ascending, below, sameBytes, nameLabel, mayFollow}
 use Rattle.model.specs.Record.{short, field, readField, RawTags, cutTags, rawTags, withTag, decodeTags}
-use Rattle.metric_name.specs.Fields.{fieldAt}
+use Rattle.labels.specs.Fields.{fieldAt}
 use Rattle.metric_name.specs.Records.{tagsJudged}
-use Rattle.metric_name.specs.declared.Place.{Place}
-use Rattle.metric_name.specs.declared.Place.the-variants.{At, Short}
+use Rattle.labels.specs.declared.Place.{Place}
+use Rattle.labels.specs.declared.Place.the-variants.{At, Short}
 use Rattle.metric_name.specs.declared.Record.{Record}
 use Rattle.metric_name.specs.declared.Record.the-variants.{Ok, Cut, BadKey}
-use Rattle.metric_name.proofs.Fields.{placed, unplaced, more}
+use Rattle.labels.proofs.Fields.{placed, unplaced, more}
 
 -- `may_follow`
 module _ (g : Bool) (p k : List ℕ) where

@@ -9,7 +9,7 @@ use lib.Seq.{drop-append-seam, drop-drop}
 use Rattle.model.specs.Labels.{Tag, Labels}
 use Rattle.model.specs.Record.{readField, onField, Decoded, decoded, cut, badKey, decode, encodeField, encodeTags, encode}
 use Rattle.model.specs.Laws.Record.{read-field, encode-split, decode-is}
-use Rattle.metric_name.specs.Names.{front}
+use Rattle.labels.specs.Names.{front}
 use Rattle.metric_name.specs.Records.{recordOf}
 use Rattle.metric_name.specs.declared.Record.{Record}
 use Rattle.metric_name.specs.declared.Record.the-variants.{Ok}

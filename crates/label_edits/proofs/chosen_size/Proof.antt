@@ -1,9 +1,9 @@
 -- `label_edits::chosen_size` meets its contract. Assumes nothing.
 use borrow.Author.Needs.{needs}
 use Rattle.model.specs.Query.{keyOf}
-use Rattle.metric_name.specs.Names.{namesOf}
-use Rattle.metric_name.specs.Matchings.{matchingOf}
-use Rattle.metric_name.specs.Keys.{recordKey, key-sieve}
+use Rattle.labels.specs.Names.{namesOf}
+use Rattle.labels.specs.Matchings.{matchingOf}
+use Rattle.signature.specs.Keys.{recordKey, key-sieve}
 use Rattle.metric_name.proofs.Cursors.{span-order, next-fewer}
 use Rattle.label_edits.proofs.Sizes.{TallyLeft, tally-start, tally-done, tally-one, tally-tags-fit, tally-bytes-fit}
 use Rattle.label_edits.proofs.chosen_size.Statement.{statement}

@@ -2,9 +2,9 @@
 use borrow.Author.Needs.{needs}
 use Rattle.model.specs.Record.{encodeTags}
 use Rattle.model.specs.Query.{keyOf}
-use Rattle.metric_name.specs.Names.{namesOf}
-use Rattle.metric_name.specs.Matchings.{matchingOf}
-use Rattle.metric_name.specs.Keys.{recordKey}
+use Rattle.labels.specs.Names.{namesOf}
+use Rattle.labels.specs.Matchings.{matchingOf}
+use Rattle.signature.specs.Keys.{recordKey}
 use Rattle.metric_name.proofs.Cursors.{span-order, span-within, next-fewer}
 use Rattle.label_edits.proofs.Puts.{PutLeft, put-start, put-ended, one-room, put-one-tag}
 use Rattle.label_edits.proofs.put_chosen.Statement.{statement}

@@ -1,6 +1,6 @@
 -- `metric_name::read_record` meets its contract. Assumes nothing.
 use borrow.Author.Needs.{needs}
-use Rattle.metric_name.proofs.Fields.{byte-fits}
+use Rattle.labels.proofs.Fields.{byte-fits}
 use Rattle.metric_name.proofs.RecordsRead.{record-unnamed, record-uncounted, record-many, record-judged}
 use Rattle.metric_name.proofs.read_record.Statement.{statement}
 use Rattle.metric_name.proofs.read_record.Tie as tie

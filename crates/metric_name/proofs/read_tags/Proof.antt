@@ -7,7 +7,7 @@ use mathlib.Core.Bool.{true}
 use lib.ListN.{length, drop, take}
 use Rattle.model.specs.Record.{decodeTags}
 use Rattle.metric_name.specs.Records.{tagsJudged}
-use Rattle.metric_name.proofs.Fields.{place-order, place-within}
+use Rattle.labels.proofs.Fields.{place-order, place-within}
 use Rattle.metric_name.proofs.TagsRead.{tags-cut, tags-cut-value, tags-turn, tags-fine, tags-bad}
 use Rattle.metric_name.proofs.read_tags.Statement.{statement}
 use Rattle.metric_name.proofs.read_tags.Tie as tie

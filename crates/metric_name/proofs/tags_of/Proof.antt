@@ -1,6 +1,6 @@
 -- `metric_name::tags_of` meets its contract. Assumes nothing.
 use borrow.Author.Needs.{needs}
-use Rattle.metric_name.proofs.Fields.{byte-fits}
+use Rattle.labels.proofs.Fields.{byte-fits}
 use Rattle.metric_name.proofs.Cursors.{tags-counted, tags-uncounted, tags-unnamed}
 use Rattle.metric_name.proofs.tags_of.Statement.{statement}
 use Rattle.metric_name.proofs.tags_of.Tie as tie

@@ -1,0 +1,5 @@
+pub mod Notation
+pub mod Refusals
+pub mod OneToOne
+pub mod Joins
+pub mod SetRules

@@ -1,0 +1,1 @@
+// What a call means, in specs/. No code.

@@ -1,0 +1,5 @@
+pub mod Outcomes
+pub mod Valid
+pub mod Dealing
+pub mod Partition
+pub mod Prometheus

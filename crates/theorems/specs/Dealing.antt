@@ -1,0 +1,5 @@
+pub mod Merging
+pub mod Numbers
+pub mod Fallback
+pub mod Verdicts
+pub mod Fitting

@@ -1,0 +1,10 @@
+pub mod Claims
+pub mod Laws
+pub mod Outcomes
+pub mod Dealing
+pub mod Partition
+pub mod Valid
+pub mod Prometheus
+pub mod Joins
+pub mod Settled
+pub mod Examples

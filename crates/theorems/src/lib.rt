@@ -1,0 +1,1 @@
+// What is proved of a call, in specs/. No code.
