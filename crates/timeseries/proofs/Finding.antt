@@ -11,9 +11,9 @@ use Rattle.model.specs.Lists.{cases}
 use Rattle.model.specs.Labels.{Tag, Labels, sameTags}
 use Rattle.model.specs.Edits.{Names}
 use Rattle.model.specs.Query.{Matching, keyOf}
-use Rattle.metric_name.specs.Names.{namesOf}
+use Rattle.labels.specs.Names.{namesOf}
 use Rattle.metric_name.specs.Lenient.{labelsOf}
-use Rattle.metric_name.specs.Keys.{recordKey, hashOf, same-hash}
+use Rattle.signature.specs.Keys.{recordKey, hashOf, same-hash}
 use Rattle.timeseries.specs.Sides.{recordAt, labelsIn, Positions}
 use Rattle.timeseries.specs.SideLaws.{labels-at, labels-count}
 use Rattle.timeseries.specs.Places.{firstWhere, first-yes, first-no, first-none, first-within, first-left, first-right}

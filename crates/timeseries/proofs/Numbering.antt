@@ -12,9 +12,9 @@ use Rattle.model.specs.Labels.{Labels}
 use Rattle.model.specs.Edits.{Names}
 use Rattle.model.specs.Query.{Matching, keyOf}
 use Rattle.model.specs.Laws.Lists.{map-append}
-use Rattle.metric_name.specs.Names.{namesOf}
+use Rattle.labels.specs.Names.{namesOf}
 use Rattle.metric_name.specs.Lenient.{labelsOf}
-use Rattle.metric_name.specs.Keys.{recordKey, hashOf}
+use Rattle.signature.specs.Keys.{recordKey, hashOf}
 use Rattle.timeseries.specs.Sides.{recordAt, labelsIn, Positions}
 use Rattle.timeseries.specs.SideLaws.{labels-at, labels-count, labels-first, positions-first}
 use Rattle.timeseries.specs.Places.{firstWhere, first-within}

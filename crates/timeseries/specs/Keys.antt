@@ -8,7 +8,7 @@ use Rattle.model.specs.Labels.{Labels, sameTags}
 use Rattle.model.specs.Edits.{Names}
 use Rattle.model.specs.Query.{Matching, keyOf}
 use Rattle.model.specs.Row.{onlyMissing}
-use Rattle.metric_name.specs.Keys.{hashOf}
+use Rattle.signature.specs.Keys.{hashOf}
 use Rattle.timeseries.specs.Sides.{labelsIn, Positions}
 use Rattle.timeseries.specs.Places.{firstWhere}
 

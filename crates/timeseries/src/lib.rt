@@ -1,5 +1,5 @@
 // Vectors: taken from bytes and readings, their records, rows and keys.
-use metric_name::Matching;
+use labels::Matching;
 use metric_name::Record;
 ghost use mathlib.Core.Path.{_≡_};
 ghost use Prim.Native.Nat.{_+_, _-_, _*_, _≤_, _<_};
@@ -7,10 +7,10 @@ ghost use Rattle.model.specs.Vector.{twoBytesAt};
 ghost use mathlib.Core.List.{[], _++_};
 ghost use lib.ListN.{length};
 ghost use Rattle.model.specs.Labels.{sameTags};
-ghost use Rattle.metric_name.specs.Names.{namesOf};
+ghost use Rattle.labels.specs.Names.{namesOf};
 ghost use Rattle.metric_name.specs.Lenient.{labelsOf};
-ghost use Rattle.metric_name.specs.Matchings.{matchingOf};
-ghost use Rattle.metric_name.specs.Keys.{recordKey, hashOf};
+ghost use Rattle.labels.specs.Matchings.{matchingOf};
+ghost use Rattle.signature.specs.Keys.{recordKey, hashOf};
 ghost use Rattle.timeseries.specs.Sides.{recordAt, labelsIn, rowAt, Positions};
 ghost use Rattle.timeseries.specs.Takes.{WalkedInto, TakenInto};
 ghost use Rattle.timeseries.specs.Places.{firstOf, lastOf};
@@ -138,7 +138,7 @@ fn same_key(g: u64, a: &[u8], h: u64, b: &[u8], matching: Matching, list: &[u8])
     if g != h {
         return false;
     }
-    metric_name::same_key(a, b, matching, list)
+    signature::same_key(a, b, matching, list)
 }
 
 // The first record that has the key of another, with the hash h; or how many records there are.
@@ -212,7 +212,7 @@ pub fn number_right(
     let mut i: usize = 0;
     while i < keys.len() {
         let rec = record(array, at, i);
-        let h = metric_name::hash_key(rec, matching, list);
+        let h = signature::hash_key(rec, matching, list);
         let e = i + 1;
         let k = key_number(
             left,

@@ -2,7 +2,7 @@
 use borrow.Author.Needs.{needs}
 use Prim.Native.Nat.{_-_}
 use lib.ListN.{length}
-use Rattle.metric_name.specs.Matchings.{matchingOf}
+use Rattle.labels.specs.Matchings.{matchingOf}
 use Rattle.timeseries.proofs.Finding.{Finding, side-positions, find-inside, find-hash, find-starts, find-turn, find-here, find-ends}
 use Rattle.timeseries.proofs.find_key.Statement.{statement}
 use Rattle.timeseries.proofs.find_key.Tie as tie

@@ -2,7 +2,7 @@
 use borrow.Author.Needs.{needs}
 use Prim.Native.Nat.{_-_}
 use lib.ListN.{length}
-use Rattle.metric_name.specs.Matchings.{matchingOf}
+use Rattle.labels.specs.Matchings.{matchingOf}
 use Rattle.timeseries.specs.Sides.{labelsIn}
 use Rattle.timeseries.proofs.Numbering.{Numbering, number-starts, number-positions, number-inside, number-cut, number-hashes, number-so-far, number-turn, number-ends}
 use Rattle.timeseries.proofs.number_right.Statement.{statement}
