@@ -7,3 +7,6 @@ pub mod Record
 pub mod Edits
 pub mod Query
 pub mod Vector
+pub mod Computing
+pub mod Examples
+pub mod Laws

@@ -9,7 +9,7 @@ use Rattle.operator.specs.Operators.{operatorOf, isCarried}
 use Rattle.model.specs.Limits.{maxListed}
 use Rattle.model.specs.Lists.{isEmpty}
 use Rattle.model.specs.Labels.{Tag, Labels, sameTags}
-use Rattle.model.specs.Record.{Field, short, field, readField, onField}
+use Rattle.model.specs.Record.{readField, onField}
 use Rattle.model.specs.Edits.{Names, tagsOn, tagsIgnoring}
 
 pub data Side : Type 0 where
@@ -98,11 +98,15 @@ fitting q = (isMatched (q .matching) || isEmpty (q .matchingList)) && (isGroup (
 abbrev pub ended : Query → List ℕ → TakenQuery
 ended q rest = cond (isEmpty rest && fitting q) (query q) malformed
 
--- 01: flag byte (0 neither, 1 keep names, 2 bool, 3 both); matching list; join list
+-- 01: flag byte (0 neither, 1 keep names, 2 bool, 3 both)
+abbrev pub queryOf : Operator → ℕ → ℕ → ℕ → Names → Names → Query
+queryOf o m j f ns js =
+    record { operator = o; matching = matchingOf m; join = joinOf j; keepNames = eqb f 1 || eqb f 3; bool = leb 2 f; matchingList = ns; joinList = js }
+
+-- 01: matching list; join list
 abbrev pub withLists : Operator → ℕ → ℕ → ℕ → List ℕ → TakenQuery
 withLists o m j f s =
-    onListed (listIn s) malformed (λ ns s₁. onListed (listIn s₁) malformed (λ js s₂.
-    ended (record { operator = o; matching = matchingOf m; join = joinOf j; keepNames = eqb f 1 || eqb f 3; bool = leb 2 f; matchingList = ns; joinList = js }) s₂))
+    onListed (listIn s) malformed (λ ns s₁. onListed (listIn s₁) malformed (λ js s₂. ended (queryOf o m j f ns js) s₂))
 
 abbrev pub modified : Operator → List ℕ → TakenQuery
 modified o [] = malformed

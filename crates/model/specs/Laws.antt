@@ -1,0 +1,9 @@
+pub mod Booleans
+pub mod Lists
+pub mod Order
+pub mod Tags
+pub mod Record
+pub mod Edits
+pub mod SetTags
+pub mod Query
+pub mod Vector
