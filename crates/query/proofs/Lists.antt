@@ -15,7 +15,7 @@ use Rattle.model.specs.Record.{Field, short, field, readField, onField, encodeF
 use Rattle.model.specs.Laws.Record.{read-field, field-read}
 use Rattle.model.specs.Edits.{Names}
 use Rattle.model.specs.Query.{Listed, notListed, listed, withName, namesIn, listIn, onListed}
-use Rattle.metric_name.specs.Names.{namesOf, names-listed}
+use Rattle.labels.specs.Names.{namesOf, names-listed}
 use Rattle.query.specs.declared.ListEnd.{ListEnd}
 use Rattle.query.specs.declared.ListEnd.the-variants.{Until, Bad}
 use Rattle.query.specs.Queries.{endOf, lists, noLists, listsIn, matchingPart, ListsWithin, Counts, ListsAt}

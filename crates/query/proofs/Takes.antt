@@ -16,9 +16,9 @@ use Rattle.operator.specs.Operators.{operatorOf, coded, codedOf, isCarried}
 use Rattle.model.specs.Lists.{isEmpty}
 use Rattle.model.specs.Edits.{Names}
 use Rattle.model.specs.Query as Model
-use Rattle.metric_name.specs.declared.Matching.{Matching}
-use Rattle.metric_name.specs.Matchings.{matchingOf}
-use Rattle.metric_name.specs.Names.{namesOf}
+use Rattle.labels.specs.declared.Matching.{Matching}
+use Rattle.labels.specs.Matchings.{matchingOf}
+use Rattle.labels.specs.Names.{namesOf}
 use Rattle.query.specs.declared.Join.{Join}
 use Rattle.query.specs.declared.Query.{Query}
 use Rattle.query.specs.declared.Request.{Request}

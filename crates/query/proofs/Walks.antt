@@ -8,10 +8,10 @@ use lib.ListN.{length, getD, take, drop, length-drop, length-take}
 use lib.Dec.{leb}
 use borrow.Author.Tests.{le-leb, lt-leb}
 use Rattle.model.specs.Query.{Listed, notListed, listed, withName, namesIn, listIn}
-use Rattle.metric_name.specs.Fields.{fieldAt}
-use Rattle.metric_name.specs.declared.Place.{Place}
-use Rattle.metric_name.specs.declared.Place.the-variants.{At, Short}
-use Rattle.metric_name.proofs.Fields.{Placed, placed, unplaced, more}
+use Rattle.labels.specs.Fields.{fieldAt}
+use Rattle.labels.specs.declared.Place.{Place}
+use Rattle.labels.specs.declared.Place.the-variants.{At, Short}
+use Rattle.labels.proofs.Fields.{Placed, placed, unplaced, more}
 use Rattle.query.specs.declared.ListEnd.{ListEnd}
 use Rattle.query.specs.declared.ListEnd.the-variants.{Until, Bad}
 use Rattle.query.specs.Queries.{endOf}

@@ -10,8 +10,8 @@ use Rattle.operator.specs.Kinds.{Kind, arithmetic, comparison, setRule, fallbac
 use Rattle.model.specs.Lists.{isEmpty}
 use Rattle.model.specs.Edits.{Names}
 use Rattle.model.specs.Query as Model
-use Rattle.metric_name.specs.Names.{namesOf}
-use Rattle.metric_name.specs.Matchings.{matchingOf}
+use Rattle.labels.specs.Names.{namesOf}
+use Rattle.labels.specs.Matchings.{matchingOf}
 use Rattle.query.specs.declared.Join.{Join}
 use Rattle.query.specs.declared.Join.the-variants.{OneToOne, GroupLeft, GroupRight}
 use Rattle.query.specs.declared.Query.{Query}

@@ -5,10 +5,10 @@ ghost use Prim.Native.Nat.{_≤_, _<_};
 ghost use lib.Dec.{eqb};
 ghost use lib.ListN.{length, drop};
 ghost use Rattle.model.specs.Query as Model;
-ghost use Rattle.metric_name.specs.Matchings.{matchingOf};
+ghost use Rattle.labels.specs.Matchings.{matchingOf};
 ghost use Rattle.query.specs.Queries.{joinOf, endOf, ListsAt, TakenAs, resets};
-use metric_name::Matching;
-use metric_name::Place;
+use labels::Matching;
+use labels::Place;
 use operator::Coded;
 use operator::Operator;
 
@@ -51,7 +51,7 @@ fn labels_end(s: &[u8], at: usize, n: usize) -> ListEnd
     let mut p = at;
     let mut left = n;
     while 0 < left {
-        let Place::At { start, end } = metric_name::field_at(s, p) else {
+        let Place::At { start, end } = labels::field_at(s, p) else {
             return ListEnd::Bad;
         };
         if start == end {

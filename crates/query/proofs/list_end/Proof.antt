@@ -1,6 +1,6 @@
 -- `list_end` meets its contract. Assumes nothing.
 use borrow.Author.Needs.{needs}
-use Rattle.metric_name.proofs.Fields.{byte-fits}
+use Rattle.labels.proofs.Fields.{byte-fits}
 use Rattle.query.proofs.Walks.{list-none, list-long, list-walked}
 use Rattle.query.proofs.list_end.Statement.{statement}
 use Rattle.query.proofs.list_end.Tie as tie
