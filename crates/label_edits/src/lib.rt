@@ -2,6 +2,7 @@
 use labels::Matching;
 use labels::Place;
 use metric_name::Next;
+use operator::Operator;
 ghost use mathlib.Core.Path.{_≡_};
 ghost use mathlib.Core.Bool.{cond};
 ghost use mathlib.Core.List.{[], _∷_};
@@ -76,7 +77,7 @@ pub struct Size {
 }
 
 // The tags of a record's key.
-pub fn chosen_size(rec: &[u8], matching: Matching, list: &[u8]) -> Size
+fn chosen_size(rec: &[u8], matching: Matching, list: &[u8]) -> Size
     ensures { λ r. ⌜ TagsSized (recordKey (matchingOf matching) (now (list .entry)) (now (rec .entry))) r ⌝ }
 {
     let t = metric_name::tags_of(rec);
@@ -103,7 +104,7 @@ pub fn chosen_size(rec: &[u8], matching: Matching, list: &[u8]) -> Size
 }
 
 // Writes the tags of a record's key.
-pub fn put_chosen(out: &mut [u8], at: usize, rec: &[u8], matching: Matching, list: &[u8]) -> usize
+fn put_chosen(out: &mut [u8], at: usize, rec: &[u8], matching: Matching, list: &[u8]) -> usize
     requires { ⌜ at + length (encodeTags (recordKey (matchingOf matching) (now list) (now rec))) ≤ length (now out) ⌝ }
     ensures { λ r. ⌜ Put (now (out .entry)) at (encodeTags (recordKey (matchingOf matching) (now (list .entry)) (now (rec .entry)))) (now (out .exit)) r ⌝ }
 {
@@ -162,7 +163,7 @@ pub fn put_kept(
 pub fn remove_tags_on_size(rec: &[u8], list: &[u8]) -> Size
     ensures { λ r. ⌜ Sized (removeTagsOn (namesOf (now (list .entry))) (labelsOf (now (rec .entry)))) r ⌝ }
 {
-    let named = labels::in_list(list, b"__name__");
+    let named = labels::in_list(list, &Operator::METRIC_NAME);
     kept_size(rec, Matching::On, list, named)
 }
 
@@ -170,14 +171,14 @@ pub fn remove_tags_on(out: &mut [u8], at: usize, rec: &[u8], list: &[u8]) -> usi
     requires { ⌜ at + length (encode (removeTagsOn (namesOf (now list)) (labelsOf (now rec)))) ≤ length (now out) ⌝ }
     ensures { λ r. ⌜ Put (now (out .entry)) at (encode (removeTagsOn (namesOf (now (list .entry))) (labelsOf (now (rec .entry))))) (now (out .exit)) r ⌝ }
 {
-    let named = labels::in_list(list, b"__name__");
+    let named = labels::in_list(list, &Operator::METRIC_NAME);
     put_kept(out, at, rec, Matching::On, list, named)
 }
 
 pub fn remove_tags_ignoring_size(rec: &[u8], list: &[u8]) -> Size
     ensures { λ r. ⌜ Sized (removeTagsIgnoring (namesOf (now (list .entry))) (labelsOf (now (rec .entry)))) r ⌝ }
 {
-    let named = labels::in_list(list, b"__name__");
+    let named = labels::in_list(list, &Operator::METRIC_NAME);
     kept_size(rec, Matching::Ignoring, list, !named)
 }
 
@@ -185,6 +186,6 @@ pub fn remove_tags_ignoring(out: &mut [u8], at: usize, rec: &[u8], list: &[u8]) 
     requires { ⌜ at + length (encode (removeTagsIgnoring (namesOf (now list)) (labelsOf (now rec)))) ≤ length (now out) ⌝ }
     ensures { λ r. ⌜ Put (now (out .entry)) at (encode (removeTagsIgnoring (namesOf (now (list .entry))) (labelsOf (now (rec .entry))))) (now (out .exit)) r ⌝ }
 {
-    let named = labels::in_list(list, b"__name__");
+    let named = labels::in_list(list, &Operator::METRIC_NAME);
     put_kept(out, at, rec, Matching::Ignoring, list, !named)
 }

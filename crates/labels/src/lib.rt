@@ -94,14 +94,14 @@ pub fn is_star(list: &[u8]) -> bool
     if list.len() == 0 {
         return false;
     }
-    let n = list[0] as usize;
-    if n == 0 {
+    let count = list[0] as usize;
+    if count == 0 {
         return false;
     }
     let Place::At { start, end } = field_at(list, 1) else {
         return false;
     };
-    if n == 1 {
+    if count == 1 {
         return same_bytes(&list[start..end], b"*");
     }
     match field_at(list, end) {

@@ -1,5 +1,6 @@
 // Label records: read at a place, walked tag by tag, and looked up.
 use labels::Place;
+use operator::Operator;
 ghost use mathlib.Core.Path.{_≡_};
 ghost use mathlib.Core.Bool.{true, _&&_};
 ghost use mathlib.Core.List.{[]};
@@ -20,7 +21,7 @@ fn may_follow(p: &[u8], k: &[u8], good: bool) -> bool
 {
     if good {
         if labels::is_below(p, k) {
-            !labels::same_bytes(k, b"__name__")
+            !labels::same_bytes(k, &Operator::METRIC_NAME)
         } else {
             false
         }
@@ -77,7 +78,7 @@ pub fn read_record(s: &[u8], at: usize) -> Record
         return Record::Cut;
     }
     let n = s[end] as usize;
-    if 32 < n {
+    if Operator::MAX_TAGS < n {
         return Record::Cut;
     }
     read_tags(s, end + 1, n)
@@ -218,7 +219,7 @@ fn find_value(labels: &[u8], key: &[u8]) -> Value
 {
     match read_record(labels, 0) {
         Record::Ok { next: _ } => {
-            if labels::same_bytes(key, b"__name__") {
+            if labels::same_bytes(key, &Operator::METRIC_NAME) {
                 value_at(find_name(labels))
             } else {
                 value_at(find_tag(labels, key))

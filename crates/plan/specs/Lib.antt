@@ -4,3 +4,4 @@ pub mod Conclude
 pub mod Pairs
 pub mod Joins
 pub mod Sets
+pub mod Laws

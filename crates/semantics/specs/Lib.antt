@@ -5,3 +5,4 @@ pub mod Binop
 pub mod Call
 pub mod Computing
 pub mod Examples
+pub mod Laws

@@ -7,3 +7,4 @@ pub mod Valid
 pub mod Prometheus
 pub mod Joins
 pub mod Settled
+pub mod Examples

@@ -59,6 +59,21 @@ cond-not : {A : Type 0} (t : Bool) (x y : A) → cond t x y ≡ cond (not t) y x
 cond-not true x y = refl
 cond-not false x y = refl
 
+only-missing-at : (i : ℕ) (row : List ℕ) → onlyMissing row ≡ true → missing (getD row i noReading) ≡ true
+unfolding onlyMissing
+only-missing-at i [] e = no-reading-missing
+only-missing-at zero (x ∷ row) e = cases (missing x) (λ f. f) (λ f. absurd (false≢true (sym (ap (λ t. cond t (onlyMissing row) false) f) ∙ e)))
+only-missing-at (suc i) (x ∷ row) e =
+    cases (missing x) (λ f. only-missing-at i row (sym (ap (λ t. cond t (onlyMissing row) false) f) ∙ e)) (λ f. absurd (false≢true (sym (ap (λ t. cond t (onlyMissing row) false) f) ∙ e)))
+
+element-nil : (i : ℕ) (b : Series) → elementOf i b ++ [] ≡ elementOf i b
+element-nil i b = cases (missing (readingAt i b)) (λ e. rw e) (λ e. rw e)
+
+-- a series goes only where it has no element at any point
+gone : (i : ℕ) (t : Bool) (b : Series) → onlyMissing (b .row) ≡ t → instant i (listed (cond t none (some b))) ≡ elementOf i b
+gone i false b e = element-nil i b
+gone i true b e = rw (only-missing-at i (b .row) e)
+
 module _ (k : SetRule) (quiet : adds k ≡ false) where
   set-reading : (rs : List Placed) (i x : ℕ) → setReading k rs i x ≡ cond (keepsIf k (someReading rs i)) x noReading
   set-reading rs i x = go k quiet
@@ -88,21 +103,6 @@ module _ (k : SetRule) (quiet : adds k ≡ false) where
       go : (t : Bool) (y : ℕ) → y ≡ cond t (readingAt i b) noReading → cond (missing y) [] (record { labels = b .labels; reading = y } ∷ []) ≡ cond t (elementOf i b) []
       go true y e = rw e
       go false y e = rw (e, no-reading-missing)
-
-  only-missing-at : (i : ℕ) (row : List ℕ) → onlyMissing row ≡ true → missing (getD row i noReading) ≡ true
-  unfolding onlyMissing
-  only-missing-at i [] e = no-reading-missing
-  only-missing-at zero (x ∷ row) e = cases (missing x) (λ f. f) (λ f. absurd (false≢true (sym (ap (λ t. cond t (onlyMissing row) false) f) ∙ e)))
-  only-missing-at (suc i) (x ∷ row) e =
-      cases (missing x) (λ f. only-missing-at i row (sym (ap (λ t. cond t (onlyMissing row) false) f) ∙ e)) (λ f. absurd (false≢true (sym (ap (λ t. cond t (onlyMissing row) false) f) ∙ e)))
-
-  element-nil : (i : ℕ) (b : Series) → elementOf i b ++ [] ≡ elementOf i b
-  element-nil i b = cases (missing (readingAt i b)) (λ e. rw e) (λ e. rw e)
-
-  -- a series goes only where it has no element at any point
-  gone : (i : ℕ) (t : Bool) (b : Series) → onlyMissing (b .row) ≡ t → instant i (listed (cond t none (some b))) ≡ elementOf i b
-  gone i false b e = element-nil i b
-  gone i true b e = rw (only-missing-at i (b .row) e)
 
   staying-instant : (i : ℕ) (b : Series) → instant i (listed (staying k b)) ≡ elementOf i b
   staying-instant i b = go k

@@ -7,7 +7,8 @@ use Rattle.model.specs.Row.{merged, twoOverlaps}
 use Rattle.model.specs.Vector.{Series}
 use Rattle.semantics.specs.Call.{Outcome}
 use Rattle.semantics.specs.Computing.{computing}
-use Rattle.semantics.specs.Examples.Notation.{N, r0, r1, r2, r3, r4, r5, r7, r8, r9, A, series, press, ask, plainly, on, gives}
+use Rattle.model.specs.Examples.Numbers.{eight, five, four, nine, one, seven, three, two, zero}
+use Rattle.semantics.specs.Examples.Notation.{N, A, series, press, ask, plainly, on, gives}
 
 pub data Question : Type 0 where
   merge : List ℕ → List ℕ → Question  -- into, of
@@ -40,26 +41,26 @@ pressA r = series [] (press A ∷ []) r
 abbrev pub starred : List Example
 starred =
     -- Merge into [1,N,3,N] of [N,2,N,4]: [1,2,3,4].
-    example (merge (r1 ∷ N ∷ r3 ∷ N ∷ []) (N ∷ r2 ∷ N ∷ r4 ∷ [])) (row (r1 ∷ r2 ∷ r3 ∷ r4 ∷ [])) ∷
+    example (merge (one ∷ N ∷ three ∷ N ∷ []) (N ∷ two ∷ N ∷ four ∷ [])) (row (one ∷ two ∷ three ∷ four ∷ [])) ∷
     -- Into [1,2,3]: [9,8,N] gives [9,8,3]; [9,8,7] overlaps.
-    example (merge (r1 ∷ r2 ∷ r3 ∷ []) (r9 ∷ r8 ∷ N ∷ [])) (row (r9 ∷ r8 ∷ r3 ∷ [])) ∷
-    example (merge (r1 ∷ r2 ∷ r3 ∷ []) (r9 ∷ r8 ∷ r7 ∷ [])) overlapping ∷
+    example (merge (one ∷ two ∷ three ∷ []) (nine ∷ eight ∷ N ∷ [])) (row (nine ∷ eight ∷ three ∷ [])) ∷
+    example (merge (one ∷ two ∷ three ∷ []) (nine ∷ eight ∷ seven ∷ [])) overlapping ∷
     -- p = 2, [1,N] and [N,2]: overlapping.
-    example (merge (r1 ∷ N ∷ []) (N ∷ r2 ∷ [])) overlapping ∷
+    example (merge (one ∷ N ∷ []) (N ∷ two ∷ [])) overlapping ∷
     -- One-to-one left rows [1,N,N], [N,2,N], [N,N,3]: [1,2,3], third's labels. (Zeros are added, and names kept.)
     example
-    (asked (ask 0 0 0 1 [] []) 3 (series (97 ∷ []) (press A ∷ []) (r1 ∷ N ∷ N ∷ []) ∷ series (98 ∷ []) (press A ∷ []) (N ∷ r2 ∷ N ∷ []) ∷ series (99 ∷ []) (press A ∷ []) (N ∷ N ∷ r3 ∷ []) ∷ []) (pressA (r0 ∷ r0 ∷ r0 ∷ []) ∷ []))
-    (outcome (gives 3 (series (99 ∷ []) (press A ∷ []) (r1 ∷ r2 ∷ r3 ∷ []) ∷ []))) ∷
+    (asked (ask 0 0 0 1 [] []) 3 (series (97 ∷ []) (press A ∷ []) (one ∷ N ∷ N ∷ []) ∷ series (98 ∷ []) (press A ∷ []) (N ∷ two ∷ N ∷ []) ∷ series (99 ∷ []) (press A ∷ []) (N ∷ N ∷ three ∷ []) ∷ []) (pressA (zero ∷ zero ∷ zero ∷ []) ∷ []))
+    (outcome (gives 3 (series (99 ∷ []) (press A ∷ []) (one ∷ two ∷ three ∷ []) ∷ []))) ∷
     -- `unless` [1,2] against [N,5]: [1,N]. [1,N] against [4,N]: dropped. Unmatched [N,N]: kept.
-    example (asked (plainly 18) 2 (pressA (r1 ∷ r2 ∷ []) ∷ []) (pressA (N ∷ r5 ∷ []) ∷ [])) (outcome (gives 2 (pressA (r1 ∷ N ∷ []) ∷ []))) ∷
-    example (asked (plainly 18) 2 (pressA (r1 ∷ N ∷ []) ∷ []) (pressA (r4 ∷ N ∷ []) ∷ [])) (outcome (gives 2 [])) ∷
-    example (asked (plainly 18) 2 (pressA (N ∷ N ∷ []) ∷ []) (series [] [] (r4 ∷ r4 ∷ []) ∷ [])) (outcome (gives 2 (pressA (N ∷ N ∷ []) ∷ []))) ∷
+    example (asked (plainly 18) 2 (pressA (one ∷ two ∷ []) ∷ []) (pressA (N ∷ five ∷ []) ∷ [])) (outcome (gives 2 (pressA (one ∷ N ∷ []) ∷ []))) ∷
+    example (asked (plainly 18) 2 (pressA (one ∷ N ∷ []) ∷ []) (pressA (four ∷ N ∷ []) ∷ [])) (outcome (gives 2 [])) ∷
+    example (asked (plainly 18) 2 (pressA (N ∷ N ∷ []) ∷ []) (series [] [] (four ∷ four ∷ []) ∷ [])) (outcome (gives 2 (pressA (N ∷ N ∷ []) ∷ []))) ∷
     -- N `== bool` 3: N. 3 `!= bool` N: 1.
-    example (asked (ask 5 0 0 2 [] []) 1 (pressA (N ∷ []) ∷ []) (pressA (r3 ∷ []) ∷ [])) (outcome (gives 1 (pressA (N ∷ []) ∷ []))) ∷
-    example (asked (ask 16 0 0 2 [] []) 1 (pressA (r3 ∷ []) ∷ []) (pressA (N ∷ []) ∷ [])) (outcome (gives 1 (pressA (r1 ∷ []) ∷ []))) ∷
+    example (asked (ask 5 0 0 2 [] []) 1 (pressA (N ∷ []) ∷ []) (pressA (three ∷ []) ∷ [])) (outcome (gives 1 (pressA (N ∷ []) ∷ []))) ∷
+    example (asked (ask 16 0 0 2 [] []) 1 (pressA (three ∷ []) ∷ []) (pressA (N ∷ []) ∷ [])) (outcome (gives 1 (pressA (one ∷ []) ∷ []))) ∷
     -- Left {press="A"} [N,2], right {} [7,7]: `default` [7,2]; `or` both series.
-    example (asked (plainly 3) 2 (pressA (N ∷ r2 ∷ []) ∷ []) (series [] [] (r7 ∷ r7 ∷ []) ∷ [])) (outcome (gives 2 (pressA (r7 ∷ r2 ∷ []) ∷ []))) ∷
-    example (asked (plainly 17) 2 (pressA (N ∷ r2 ∷ []) ∷ []) (series [] [] (r7 ∷ r7 ∷ []) ∷ [])) (outcome (gives 2 (pressA (N ∷ r2 ∷ []) ∷ series [] [] (r7 ∷ r7 ∷ []) ∷ []))) ∷
+    example (asked (plainly 3) 2 (pressA (N ∷ two ∷ []) ∷ []) (series [] [] (seven ∷ seven ∷ []) ∷ [])) (outcome (gives 2 (pressA (seven ∷ two ∷ []) ∷ []))) ∷
+    example (asked (plainly 17) 2 (pressA (N ∷ two ∷ []) ∷ []) (series [] [] (seven ∷ seven ∷ []) ∷ [])) (outcome (gives 2 (pressA (N ∷ two ∷ []) ∷ series [] [] (seven ∷ seven ∷ []) ∷ []))) ∷
     []
 
 abbrev pub Settled : Type 0

@@ -8,11 +8,11 @@ use Rattle.labels.proofs.is_star.Tie as tie
 returns : tie.Need-returns
 returns c = search star-none
 
-shared-slice-read-n : tie.Need-shared-slice-read-n
-shared-slice-read-n c = search needs
+shared-slice-read-count : tie.Need-shared-slice-read-count
+shared-slice-read-count c = search needs
 
-cast-n : tie.Need-cast-n
-cast-n c = search byte-fits
+cast-count : tie.Need-cast-count
+cast-count c = search byte-fits
 
 returns-2 : tie.Need-returns-2
 returns-2 c = search star-zero
@@ -82,8 +82,8 @@ is-star-spec =
     tie.close
     (tie.spec
     returns
-    shared-slice-read-n
-    cast-n
+    shared-slice-read-count
+    cast-count
     returns-2
     field-at-requires
     enum-known-start

@@ -2,52 +2,15 @@
 use Prim.Native.Nat.{ℕ}
 use mathlib.Core.List.{List, [], _∷_, _++_}
 use lib.ListN.{length}
-use Rattle.model.specs.Lists.{gather}
+use Rattle.model.specs.Laws.Query.{encodeList}
 use Rattle.model.specs.Reading.{noReading}
 use Rattle.model.specs.Labels.{Tag}
-use Rattle.model.specs.Record.{encodeField}
 use Rattle.model.specs.Vector.{Series, labelPart, labelBytes, readingsOf}
 use Rattle.semantics.specs.Call.{Outcome, answered, call}
 
--- readings: N is the missing one that rules write, M another NaN
+-- 01: "Missing", written N: the one that rules write. `payload` is another.
 abbrev pub N : ℕ
 N = noReading
-
-abbrev pub M : ℕ
-M = 0xfff8_0000_0000_0001
-
-abbrev pub r0 : ℕ
-r0 = 0
-
-abbrev pub r1 : ℕ
-r1 = 0x3ff0_0000_0000_0000
-
-abbrev pub r2 : ℕ
-r2 = 0x4000_0000_0000_0000
-
-abbrev pub r3 : ℕ
-r3 = 0x4008_0000_0000_0000
-
-abbrev pub r4 : ℕ
-r4 = 0x4010_0000_0000_0000
-
-abbrev pub r5 : ℕ
-r5 = 0x4014_0000_0000_0000
-
-abbrev pub r6 : ℕ
-r6 = 0x4018_0000_0000_0000
-
-abbrev pub r7 : ℕ
-r7 = 0x401c_0000_0000_0000
-
-abbrev pub r8 : ℕ
-r8 = 0x4020_0000_0000_0000
-
-abbrev pub r9 : ℕ
-r9 = 0x4022_0000_0000_0000
-
-abbrev pub r10 : ℕ
-r10 = 0x4024_0000_0000_0000
 
 -- keys f, p, s for form, press, stock; their values; names
 abbrev pub form : List ℕ → Tag
@@ -87,11 +50,8 @@ abbrev pub series : List ℕ → List Tag → List ℕ → Series
 series name tags row = record { labels = record { name = name; tags = tags }; row = row }
 
 -- a query: operator, matching, join, flags, then the lists
-abbrev pub labelList : List (List ℕ) → List ℕ
-labelList names = length names ∷ gather encodeField names
-
 abbrev pub ask : ℕ → ℕ → ℕ → ℕ → List (List ℕ) → List (List ℕ) → List ℕ
-ask o m j flags names joinNames = o ∷ m ∷ j ∷ flags ∷ (labelList names ++ labelList joinNames)
+ask o m j flags names joinNames = o ∷ m ∷ j ∷ flags ∷ (encodeList names ++ encodeList joinNames)
 
 -- an operator with no modifier
 abbrev pub plainly : ℕ → List ℕ

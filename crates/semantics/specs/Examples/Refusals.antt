@@ -6,7 +6,8 @@ use Rattle.model.specs.Labels.{Tag, nameLabel}
 use Rattle.model.specs.Vector.{labelPart}
 use Rattle.semantics.specs.Call.{Outcome, refused, answered, call}
 use Rattle.semantics.specs.Computing.{computing}
-use Rattle.semantics.specs.Examples.Notation.{r1, r2, r3, form, press, stock, p, s, A, B, series, ask, plainly, on, gives}
+use Rattle.model.specs.Examples.Numbers.{one, three, two}
+use Rattle.semantics.specs.Examples.Notation.{form, press, stock, p, s, A, B, series, ask, plainly, on, gives}
 
 -- sizes of a vector without series and points, and its label part
 abbrev none : List ℕ
@@ -100,7 +101,7 @@ oneSeries = labelPart (record { points = 2 }) (series [] [] [] ∷ [])
 
 -- 01: 5, readings not n times p, after bytes left over; left's 5 before right's 3
 readings-5 :
-    onLeft oneSeries (r1 ∷ []) ∷ onRight oneSeries (r1 ∷ r2 ∷ r3 ∷ []) ∷ onLeft (1 ∷ 0 ∷ 2 ∷ 0 ∷ 3 ∷ 0 ∷ 0 ∷ 0 ∷ 9 ∷ []) [] ∷
+    onLeft oneSeries (one ∷ []) ∷ onRight oneSeries (one ∷ two ∷ three ∷ []) ∷ onLeft (1 ∷ 0 ∷ 2 ∷ 0 ∷ 3 ∷ 0 ∷ 0 ∷ 0 ∷ 9 ∷ []) [] ∷
     call (plainly 0) oneSeries [] [] [] 65535 8192 ∷ []
     ≡ refused 5 0 0 ∷ refused 5 1 0 ∷ refused 3 0 1 ∷ refused 5 0 0 ∷ []
 unfolding computing
@@ -117,23 +118,23 @@ unfolding computing
 points-6 = refl
 
 -- 01: 7 left or 8 right duplicate; fields are the input places of the series kept and the one that failed to merge. One-to-one keeps the last.
-duplicate-7 : on (plainly 0) 3 (series [] (press A ∷ []) (r1 ∷ r2 ∷ r3 ∷ []) ∷ series [] (press A ∷ []) (r3 ∷ r2 ∷ r1 ∷ []) ∷ []) (series [] (press A ∷ []) (r1 ∷ r1 ∷ r1 ∷ []) ∷ []) ≡ refused 7 1 0
+duplicate-7 : on (plainly 0) 3 (series [] (press A ∷ []) (one ∷ two ∷ three ∷ []) ∷ series [] (press A ∷ []) (three ∷ two ∷ one ∷ []) ∷ []) (series [] (press A ∷ []) (one ∷ one ∷ one ∷ []) ∷ []) ≡ refused 7 1 0
 unfolding computing
 duplicate-7 = refl
 
-duplicate-8 : on (plainly 0) 3 (series [] (press A ∷ []) (r1 ∷ r1 ∷ r1 ∷ []) ∷ []) (series [] (press B ∷ []) (r1 ∷ r1 ∷ r1 ∷ []) ∷ series [] (press A ∷ []) (r1 ∷ r2 ∷ r3 ∷ []) ∷ series [] (press A ∷ []) (r3 ∷ r2 ∷ r1 ∷ []) ∷ []) ≡ refused 8 2 1
+duplicate-8 : on (plainly 0) 3 (series [] (press A ∷ []) (one ∷ one ∷ one ∷ []) ∷ []) (series [] (press B ∷ []) (one ∷ one ∷ one ∷ []) ∷ series [] (press A ∷ []) (one ∷ two ∷ three ∷ []) ∷ series [] (press A ∷ []) (three ∷ two ∷ one ∷ []) ∷ []) ≡ refused 8 2 1
 unfolding computing
 duplicate-8 = refl
 
 -- 01: left before right, within one answer series; the first in answer order
-left-before-right : on (plainly 0) 3 (series [] (press A ∷ []) (r1 ∷ r2 ∷ r3 ∷ []) ∷ series [] (press A ∷ []) (r3 ∷ r2 ∷ r1 ∷ []) ∷ []) (series [] (press A ∷ []) (r1 ∷ r2 ∷ r3 ∷ []) ∷ series [] (press A ∷ []) (r3 ∷ r2 ∷ r1 ∷ []) ∷ []) ≡ refused 7 1 0
+left-before-right : on (plainly 0) 3 (series [] (press A ∷ []) (one ∷ two ∷ three ∷ []) ∷ series [] (press A ∷ []) (three ∷ two ∷ one ∷ []) ∷ []) (series [] (press A ∷ []) (one ∷ two ∷ three ∷ []) ∷ series [] (press A ∷ []) (three ∷ two ∷ one ∷ []) ∷ []) ≡ refused 7 1 0
 unfolding computing
 left-before-right = refl
 
 first-in-order :
     on (plainly 0) 3
-    (series [] (press A ∷ []) (r1 ∷ r1 ∷ r1 ∷ []) ∷ series [] (press B ∷ []) (r1 ∷ r2 ∷ r3 ∷ []) ∷ series [] (press B ∷ []) (r3 ∷ r2 ∷ r1 ∷ []) ∷ [])
-    (series [] (press A ∷ []) (r1 ∷ r2 ∷ r3 ∷ []) ∷ series [] (press A ∷ []) (r3 ∷ r2 ∷ r1 ∷ []) ∷ series [] (press B ∷ []) (r1 ∷ r1 ∷ r1 ∷ []) ∷ [])
+    (series [] (press A ∷ []) (one ∷ one ∷ one ∷ []) ∷ series [] (press B ∷ []) (one ∷ two ∷ three ∷ []) ∷ series [] (press B ∷ []) (three ∷ two ∷ one ∷ []) ∷ [])
+    (series [] (press A ∷ []) (one ∷ two ∷ three ∷ []) ∷ series [] (press A ∷ []) (three ∷ two ∷ one ∷ []) ∷ series [] (press B ∷ []) (one ∷ one ∷ one ∷ []) ∷ [])
     ≡ refused 8 1 0
 unfolding computing
 first-in-order = refl
@@ -149,9 +150,9 @@ manyTags =
 
 -- 01: Then 9, the answer has over 32 tags; 9 comes before 10
 tags-9 :
-    call (ask 0 1 1 0 [] (s ∷ [])) (labelPart (record { points = 1 }) (series [] manyTags (r1 ∷ []) ∷ [])) (r1 ∷ []) (labelPart (record { points = 1 }) (series [] (stock A ∷ []) (r1 ∷ []) ∷ [])) (r1 ∷ []) 0 0 ∷
-    on (ask 0 1 1 0 [] []) 1 (series [] manyTags (r1 ∷ []) ∷ []) (series [] (stock A ∷ []) (r1 ∷ []) ∷ []) ∷ []
-    ≡ refused 9 0 0 ∷ gives 1 (series [] manyTags (r2 ∷ []) ∷ []) ∷ []
+    call (ask 0 1 1 0 [] (s ∷ [])) (labelPart (record { points = 1 }) (series [] manyTags (one ∷ []) ∷ [])) (one ∷ []) (labelPart (record { points = 1 }) (series [] (stock A ∷ []) (one ∷ []) ∷ [])) (one ∷ []) 0 0 ∷
+    on (ask 0 1 1 0 [] []) 1 (series [] manyTags (one ∷ []) ∷ []) (series [] (stock A ∷ []) (one ∷ []) ∷ []) ∷ []
+    ≡ refused 9 0 0 ∷ gives 1 (series [] manyTags (two ∷ []) ∷ []) ∷ []
 unfolding computing
 tags-9 = refl
 
@@ -162,9 +163,9 @@ lent labelRoom room =
 
 abbrev sumLent : ℕ → ℕ → Outcome
 sumLent labelRoom room =
-    call (plainly 0) (1 ∷ 0 ∷ 2 ∷ 0 ∷ 6 ∷ 0 ∷ 0 ∷ 1 ∷ 1 ∷ 112 ∷ 1 ∷ 65 ∷ []) (r1 ∷ r1 ∷ []) (1 ∷ 0 ∷ 2 ∷ 0 ∷ 6 ∷ 0 ∷ 0 ∷ 1 ∷ 1 ∷ 112 ∷ 1 ∷ 65 ∷ []) (r1 ∷ r2 ∷ []) labelRoom room
+    call (plainly 0) (1 ∷ 0 ∷ 2 ∷ 0 ∷ 6 ∷ 0 ∷ 0 ∷ 1 ∷ 1 ∷ 112 ∷ 1 ∷ 65 ∷ []) (one ∷ one ∷ []) (1 ∷ 0 ∷ 2 ∷ 0 ∷ 6 ∷ 0 ∷ 0 ∷ 1 ∷ 1 ∷ 112 ∷ 1 ∷ 65 ∷ []) (one ∷ two ∷ []) labelRoom room
 
 room-10 : sumLent 6 2 ∷ sumLent 5 2 ∷ sumLent 6 1 ∷ lent 0 0 ∷ []
-    ≡ answered 1 2 (0 ∷ 1 ∷ 1 ∷ 112 ∷ 1 ∷ 65 ∷ []) (r2 ∷ r3 ∷ []) ∷ refused 10 0 0 ∷ refused 10 0 0 ∷ answered 0 2 [] [] ∷ []
+    ≡ answered 1 2 (0 ∷ 1 ∷ 1 ∷ 112 ∷ 1 ∷ 65 ∷ []) (two ∷ three ∷ []) ∷ refused 10 0 0 ∷ refused 10 0 0 ∷ answered 0 2 [] [] ∷ []
 unfolding computing
 room-10 = refl

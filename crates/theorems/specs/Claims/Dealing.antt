@@ -1,9 +1,10 @@
 -- A call's series dealt into two piles, and the piles' verdicts merged. Assumes nothing.
-use Prim.Native.Nat.{ℕ, zero, suc}
+use Prim.Native.Nat.{ℕ, zero, suc, _<_}
 use mathlib.Core.Path.{_≡_}
 use mathlib.Core.Bool.{Bool, true, false, not, _&&_, cond}
 use mathlib.Core.Option.{Option, none, some}
 use mathlib.Core.List.{List, [], _∷_, map}
+use lib.ListN.{length, getD}
 use Rattle.operator.specs.Kinds.{Kind, arithmetic, comparison, setRule, fallback, notCarried, SetRule, filled, kindOf}
 use Rattle.model.specs.Lists.{keep, isEmpty, All}
 use Rattle.model.specs.Query.{Query, sameKey, Side, left, right}
@@ -28,25 +29,9 @@ pick d (b ∷ bs) = cond (d zero) (b ∷ pick (λ i. d (suc i)) bs) (pick (λ i.
 abbrev pub pile : Deal → Side → List Series → List Series
 pile deal s bs = pick (λ i. deal (record { side = s; number = i })) bs
 
--- new numbers for each side's
+-- a new number for each number of a side
 abbrev pub Renumber : Type 0
 Renumber = Side → ℕ → ℕ
-
-abbrev pub movedPlace : Renumber → Place → Place
-movedPlace ρ p = record { side = p .side; number = ρ (p .side) (p .number) }
-
-abbrev pub movedDuplicate : Renumber → Duplicate → Duplicate
-movedDuplicate ρ d = record { kept = movedPlace ρ (d .kept); failed = movedPlace ρ (d .failed) }
-
-abbrev pub movedRank : Renumber → Rank → Rank
-movedRank ρ r = record { producer = movedPlace ρ (r .producer); earliest = movedPlace ρ (r .earliest) }
-
-abbrev pub movedRanked : {R E : Type 0} → (R → R) → (E → E) → Ranked R E → Ranked R E
-movedRanked m h e = record { rank = m (e .rank); what = h (e .what) }
-
-abbrev pub movedVerdict : Renumber → Verdict → Verdict
-movedVerdict ρ (answer l) = answer (map (movedRanked (movedRank ρ) (λ s. s)) l)
-movedVerdict ρ (duplicate x) = duplicate (movedRanked (movedRank ρ) (movedDuplicate ρ) x)
 
 abbrev pub nextNumber : ℕ → (ℕ → ℕ) → ℕ
 nextNumber zero g = zero
@@ -56,6 +41,10 @@ nextNumber (suc i) g = suc (g i)
 abbrev pub wholeNumber : (ℕ → Bool) → List Series → ℕ → ℕ
 wholeNumber d [] i = i
 wholeNumber d (b ∷ bs) i = cond (d zero) (nextNumber i (wholeNumber (λ j. d (suc j)) bs)) (suc (wholeNumber (λ j. d (suc j)) bs i))
+
+-- the pile's i-th series is the side's at its whole number
+abbrev pub WholeNumbers : Type 0
+WholeNumbers = (d : ℕ → Bool) (bs : List Series) (i : ℕ) (x : Series) → i < length (pick d bs) → (getD (pick d bs) i x ≡ getD bs (wholeNumber d bs i) x) × (d (wholeNumber d bs i) ≡ true)
 
 -- 01: A series keeps its whole place, the one on its undealt side.
 abbrev pub wholePlaces : Deal → List Series → List Series → Renumber
@@ -99,6 +88,24 @@ pub record Dealt (q : Query) (deal : Deal) (ls rs : List Series) : Type 0 where
   pub apart : Apart q deal (placed ls rs)
   pub first : PileFallsAlike q deal ls rs
   pub second : PileFallsAlike q (secondPile deal) ls rs
+
+-- a pile's verdict in whole places
+
+abbrev pub movedPlace : Renumber → Place → Place
+movedPlace ρ p = record { side = p .side; number = ρ (p .side) (p .number) }
+
+abbrev pub movedDuplicate : Renumber → Duplicate → Duplicate
+movedDuplicate ρ d = record { kept = movedPlace ρ (d .kept); failed = movedPlace ρ (d .failed) }
+
+abbrev pub movedRank : Renumber → Rank → Rank
+movedRank ρ r = record { producer = movedPlace ρ (r .producer); earliest = movedPlace ρ (r .earliest) }
+
+abbrev pub movedRanked : {R E : Type 0} → (R → R) → (E → E) → Ranked R E → Ranked R E
+movedRanked m h e = record { rank = m (e .rank); what = h (e .what) }
+
+abbrev pub movedVerdict : Renumber → Verdict → Verdict
+movedVerdict ρ (answer l) = answer (map (movedRanked (movedRank ρ) (λ s. s)) l)
+movedVerdict ρ (duplicate x) = duplicate (movedRanked (movedRank ρ) (movedDuplicate ρ) x)
 
 -- merging by rank
 

@@ -1,8 +1,10 @@
 -- A pile on its own numbers is the pile in the whole, renumbered. Assumes nothing.
-use Prim.Native.Nat.{ℕ, zero, suc}
+use Prim.Native.Nat.{ℕ, zero, suc, _<_}
 use mathlib.Core.Path.{_≡_, refl, ap, _∙_}
-use mathlib.Core.Bool.{Bool, not}
+use mathlib.Core.Bool.{Bool, true, false, not, cond}
 use mathlib.Core.List.{List, [], _∷_, map}
+use native.Mathlib.Omega.{arith}
+use lib.ListN.{length, getD}
 use lib.Dec.{eqb, eqb·zero-suc, eqb·suc-zero, eqb·suc-suc}
 use Rattle.model.specs.Lists.{cases, keep, gather}
 use Rattle.model.specs.Query.{Query, sameKey, Side, left, right}
@@ -12,7 +14,7 @@ use Rattle.semantics.specs.Places.{Placed, numbered, placed, alongside}
 use Rattle.semantics.specs.Events.{Rule, emission, events, run}
 use Rattle.theorems.specs.Laws.Order.{Steady, Ascending, placed-ascending, events-orderly}
 use Rattle.theorems.specs.Laws.Renumber.{movedSeries, Exact, Natural, run-moved}
-use Rattle.theorems.specs.Claims.Dealing.{Renumber, movedVerdict, Deal, secondPile, pick, pile, nextNumber, wholeNumber, wholePlaces, Apart, mergedVerdict}
+use Rattle.theorems.specs.Claims.Dealing.{Renumber, movedVerdict, Deal, secondPile, pick, pile, nextNumber, wholeNumber, wholePlaces, Apart, mergedVerdict, WholeNumbers}
 use Rattle.theorems.specs.Dealing.Merging.{settled}
 
 next-exact : (g : ℕ → ℕ) → ((i j : ℕ) → eqb (g i) (g j) ≡ eqb i j) → (i j : ℕ) → eqb (nextNumber i g) (nextNumber j g) ≡ eqb i j
@@ -27,6 +29,23 @@ number-exact d (b ∷ bs) i j =
     cases (d zero)
     (λ q. rw q (next-exact _ (number-exact (λ k. d (suc k)) bs) i j))
     (λ q. rw (q, eqb·suc-suc) (number-exact (λ k. d (suc k)) bs i j))
+
+-- the statement of `WholeNumbers` with the test of the first series told
+abbrev NumberIs : (ℕ → Bool) → Series → List Series → ℕ → Series → Bool → Type 0
+NumberIs d b bs i x t =
+    i < length (cond t (b ∷ pick (λ k. d (suc k)) bs) (pick (λ k. d (suc k)) bs))
+    → (getD (cond t (b ∷ pick (λ k. d (suc k)) bs) (pick (λ k. d (suc k)) bs)) i x ≡ getD (b ∷ bs) (cond t (nextNumber i (wholeNumber (λ k. d (suc k)) bs)) (suc (wholeNumber (λ k. d (suc k)) bs i))) x)
+    × (d (cond t (nextNumber i (wholeNumber (λ k. d (suc k)) bs)) (suc (wholeNumber (λ k. d (suc k)) bs i))) ≡ true)
+
+pub whole-numbers : WholeNumbers
+whole-numbers d [] i x h = absurd (omega (arith, h))
+whole-numbers d (b ∷ bs) i x h = go (λ j. whole-numbers (λ k. d (suc k)) bs j x) (d zero) refl i h
+  where
+    go : ((j : ℕ) → j < length (pick (λ k. d (suc k)) bs) → (getD (pick (λ k. d (suc k)) bs) j x ≡ getD bs (wholeNumber (λ k. d (suc k)) bs j) x) × (d (suc (wholeNumber (λ k. d (suc k)) bs j)) ≡ true))
+        → (t : Bool) → d zero ≡ t → (i : ℕ) → NumberIs d b bs i x t
+    go ih true e zero h = (refl, e)
+    go ih true e (suc i) h = ih i (omega (arith, h))
+    go ih false e i h = ih i h
 
 whole-exact : (deal : Deal) (ls rs : List Series) → Exact (wholePlaces deal ls rs)
 whole-exact deal ls rs p q = go (p .side) (q .side) (p .number) (q .number)

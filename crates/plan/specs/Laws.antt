@@ -1,0 +1,6 @@
+pub mod Settling
+pub mod Keyed
+pub mod Merging
+pub mod Pairs
+pub mod Sets
+pub mod Joins

@@ -1,0 +1,51 @@
+/* Labelled vector operators over series with gaps. Document 01 of the project says what a query, a label part and a refusal are.
+ *
+ * Link with libnosingcatnip.a and -lm. The function keeps nothing between calls, so calls on disjoint output parts may run at
+ * the same time. */
+#ifndef NOSINGCATNIP_H
+#define NOSINGCATNIP_H
+
+#include <stddef.h>
+#include <stdint.h>
+
+#ifdef __cplusplus
+extern "C" {
+#endif
+
+/* What a call reports, by index into its result. */
+enum {
+    NOSINGCATNIP_NUMBER = 0,      /* 0 for an answer, else the refusal's number, 1 to 10 */
+    NOSINGCATNIP_FIELD_1 = 1,     /* the refusal's first field; 0 for an answer */
+    NOSINGCATNIP_FIELD_2 = 2,     /* the refusal's second field; 0 for an answer */
+    NOSINGCATNIP_SERIES = 3,      /* the answer's series; 0 for a refusal */
+    NOSINGCATNIP_POINTS = 4,      /* the answer's points; 0 for a refusal */
+    NOSINGCATNIP_LABEL_BYTES = 5, /* the answer's label bytes; 0 for a refusal */
+    NOSINGCATNIP_RESULT = 6       /* the result's length */
+};
+
+/* Runs a query over two vectors.
+ *
+ * Each part is a pointer and its number of elements. A label part begins with the six bytes of sizes (series, points, length of
+ * the label array, two bytes each, little-endian), then has the label array. Readings are the bits of binary64 numbers, row by
+ * row; any NaN is a missing reading.
+ *
+ * An answer's label records are written at the start of out_labels and its rows at the start of out; what lies behind them
+ * stays. A refusal changes neither part. All six numbers of result are written at each call.
+ *
+ * No pointer may be null, even where its length is 0; pointers to uint64_t are aligned to 8 bytes; out_labels, out and result
+ * overlap no other part. */
+void nosingcatnip_exec_binop(
+    const uint8_t *query, size_t query_len,
+    const uint8_t *left_labels, size_t left_labels_len,
+    const uint64_t *left, size_t left_len,
+    const uint8_t *right_labels, size_t right_labels_len,
+    const uint64_t *right, size_t right_len,
+    uint8_t *out_labels, size_t out_labels_len,
+    uint64_t *out, size_t out_len,
+    uint64_t result[6]);
+
+#ifdef __cplusplus
+}
+#endif
+
+#endif

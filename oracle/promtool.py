@@ -1,0 +1,269 @@
+#!/usr/bin/env python3
+"""Holds a vecop program against Prometheus, point by point.
+
+Needs: python3 (its standard library alone); `promtool`, which Debian's package `prometheus` brings; a built vecop program.
+Installs nothing.
+
+    oracle/promtool.py --vecop PROGRAM [--promtool PROGRAM] [--seed N] [--cases N]
+
+Random cases of `and`, `unless`, one-to-one operators and group joins are run through vecop, and its answer is the expected
+result of a unit test of promtool at each point. Samples are an hour apart, so that with Prometheus' look-back of five minutes an
+hour without a sample is empty. The sides are told apart by metric name, l and r, which is never in the key.
+
+What is left out, because Prometheus refuses it or reads it in another way: several one-side series a key; two series of a key
+with a reading at the same point, on either side of a one-to-one operator; equal labels in a result; empty tag values; `or`,
+`if`, `ifnot`, `default`, keep names and `*`, which Prometheus lacks or reads in another way; readings that would make a NaN.
+
+Comparisons are expected to differ at exactly the points where a matched right reading is missing: there Prometheus has no
+element. Those points are counted, and the expected result is without them.
+"""
+import argparse
+import os
+import random
+import shutil
+import struct
+import subprocess
+import sys
+import tempfile
+
+OPERATORS = {"+": 0, "/": 4, "==": 5, "%": 6, "*": 7, "-": 9, ">": 10, ">=": 11, "<": 14, "<=": 15, "!=": 16}
+COMPARISONS = ("==", "!=", ">", ">=", "<", "<=")
+SETS = {"and": 1, "unless": 18}
+KEYS = ("a", "b", "c")
+VALUES = ("x", "y")
+BATCH = 200
+
+
+class Case:
+    """A query and two sides: lists of (labels as a dict without name, row with None for missing)."""
+
+    def __init__(self, rng):
+        self.points = rng.randint(1, 6)
+        kind = rng.choice(("set", "one-to-one", "group_left", "group_right"))
+        self.kind = kind
+        self.op = rng.choice(tuple(SETS)) if kind == "set" else rng.choice(tuple(OPERATORS))
+        self.matching = rng.choice((None, "on", "ignoring"))
+        self.listed = rng.sample(KEYS, rng.randint(0, 2)) if self.matching else []
+        self.included = rng.sample(KEYS, rng.randint(0, 2)) if kind.startswith("group") else []
+        # PromQL has no label twice in on() and group_left().
+        if self.matching == "on":
+            self.included = [k for k in self.included if k not in self.listed]
+        self.bool = self.op in COMPARISONS and rng.random() < 0.4
+        self.left = self.side(rng)
+        self.right = self.side(rng)
+        if kind == "one-to-one":
+            self.left = self.disjoint(self.left)
+            self.right = self.disjoint(self.right)
+        elif kind == "group_left":
+            self.right = self.first_of_keys(self.right)
+        elif kind == "group_right":
+            self.left = self.first_of_keys(self.left)
+
+    def side(self, rng):
+        side = []
+        density = rng.choice((0.3, 0.6, 0.9))
+        for _ in range(rng.randint(0, 6)):
+            labels = {k: rng.choice(VALUES) for k in KEYS if rng.random() < 0.8}
+            row = [rng.choice((1, 2, 3, 4, 5, 0.5, 7.25)) if rng.random() < density else None for _ in range(self.points)]
+            if all(labels != other for other, _ in side):
+                side.append((labels, row))
+        return side
+
+    def key(self, labels):
+        if self.matching == "on":
+            return tuple(sorted((k, v) for k, v in labels.items() if k in self.listed))
+        return tuple(sorted((k, v) for k, v in labels.items() if k not in self.listed))
+
+    def first_of_keys(self, side):
+        seen = set()
+        return [s for s in side if not (self.key(s[0]) in seen or seen.add(self.key(s[0])))]
+
+    def disjoint(self, side):
+        """Series of one key share out the points, where rows are long enough to be merged; else the first stays alone."""
+        if self.points <= 2:
+            return self.first_of_keys(side)
+        taken = {}
+        for labels, row in side:
+            used = taken.setdefault(self.key(labels), set())
+            for i, reading in enumerate(row):
+                if reading is not None and i in used:
+                    row[i] = None
+                elif reading is not None:
+                    used.add(i)
+        return side
+
+    def right_rows(self, rows):
+        """For each answer row of a comparison, whether a matched right reading stands at each point."""
+        if self.kind == "group_right":
+            keys = {self.key(labels) for labels, _ in self.left}
+            many = [row for labels, row in self.right if self.key(labels) in keys]
+            return [[r is not None for r in row] for row in many]
+        found = []
+        for labels, _ in rows:
+            tags = {k: v for k, v in labels.items() if k != "__name__"}
+            matched = [row for other, row in self.right if self.key(other) == self.key(tags)]
+            found.append([any(row[i] is not None for row in matched) for i in range(self.points)])
+        return found
+
+    def query(self):
+        number = SETS.get(self.op, OPERATORS.get(self.op))
+        join = {"group_left": 1, "group_right": 2}.get(self.kind, 0)
+        head = bytes((number, (None, "on", "ignoring").index(self.matching), join, 2 if self.bool else 0))
+        return head + listed(self.listed) + listed(self.included)
+
+    def expression(self):
+        words = ["l", self.op]
+        if self.bool:
+            words.append("bool")
+        if self.matching:
+            words.append("%s(%s)" % (self.matching, ", ".join(self.listed)))
+        if self.kind.startswith("group"):
+            # PromQL takes a join only behind a matching.
+            if not self.matching:
+                words.append("ignoring()")
+            words.append("%s(%s)" % (self.kind, ", ".join(self.included)))
+        return " ".join(words + ["r"])
+
+
+def listed(labels):
+    return bytes((len(labels),)) + b"".join(bytes((len(k),)) + k.encode() for k in labels)
+
+
+def part(name, side, points):
+    array = b""
+    for labels, _ in side:
+        array += bytes((len(name),)) + name.encode() + bytes((len(labels),))
+        for key in sorted(labels):
+            array += bytes((len(key),)) + key.encode() + bytes((len(labels[key]),)) + labels[key].encode()
+    readings = b"".join(
+        struct.pack("<Q", 0x7FF8000000000000) if r is None else struct.pack("<d", r) for _, row in side for r in row
+    )
+    return struct.pack("<HHH", len(side), points, len(array)) + array + readings
+
+
+def vecop(program, case):
+    """The answer's series, each its labels and its row, or the refusal's line. Labels here need no escapes."""
+    parts = (case.query(), part("l", case.left, case.points), part("r", case.right, case.points))
+    framed = b"".join(struct.pack("<I", len(p)) + p for p in parts)
+    lines = subprocess.run([program], input=framed, stdout=subprocess.PIPE, check=True).stdout.decode().splitlines()
+    if not lines[0].startswith("answer "):
+        return lines[0]
+    rows = []
+    for line in lines[1:]:
+        head, *words = line.split(" ")
+        name, tags = head[:-1].split("{")
+        labels = {k: v.strip('"') for k, v in (t.split("=") for t in tags.split(",") if t)}
+        if name:
+            labels["__name__"] = name
+        bits = [struct.pack("<Q", int(w, 16)) for w in words]
+        rows.append((labels, [None if v != v else v for (v,) in (struct.unpack("<d", b) for b in bits)]))
+    return rows
+
+
+def written(labels):
+    tags = ",".join('%s="%s"' % (k, labels[k]) for k in sorted(labels) if k != "__name__")
+    return "%s{%s}" % (labels.get("__name__", ""), tags)
+
+
+def unit_test(case, rows, counts):
+    """One entry of a test file, or None where the result would hold equal labels."""
+    present = None
+    if case.op in COMPARISONS:
+        present = case.right_rows(rows)
+    lines = ["- interval: 1h", "  input_series:"]
+    for name, side in (("l", case.left), ("r", case.right)):
+        for labels, row in side:
+            values = " ".join("_" if r is None else repr(r) for r in row)
+            lines.append("  - series: '%s'" % written(dict(labels, __name__=name)))
+            lines.append("    values: '%s'" % values)
+    if len(lines) == 2:
+        lines[1] += " []"
+    lines.append("  promql_expr_test:")
+    missing = elements = 0
+    for i in range(case.points):
+        samples = []
+        for k, (labels, row) in enumerate(rows):
+            if row[i] is None:
+                continue
+            if present is not None and not present[k][i]:
+                missing += 1
+                continue
+            samples.append((written(labels), row[i]))
+        if len({s for s, _ in samples}) < len(samples):
+            return None
+        lines.append("  - expr: '%s'" % case.expression())
+        lines.append("    eval_time: %dh" % i if i else "    eval_time: 0s")
+        lines.append("    exp_samples:" + ("" if samples else " []"))
+        for label, value in samples:
+            lines.append("    - labels: '%s'" % label)
+            lines.append("      value: %r" % value)
+        elements += len(samples)
+    counts["points"] += case.points
+    counts["elements"] += elements
+    counts["missing on the right"] += missing
+    return "\n".join(lines)
+
+
+def judge(promtool, tests):
+    with tempfile.TemporaryDirectory() as folder:
+        path = os.path.join(folder, "cases.yml")
+        with open(path, "w", encoding="ascii") as file:
+            file.write("evaluation_interval: 1h\ntests:\n" + "\n".join(tests) + "\n")
+        done = subprocess.run([promtool, "test", "rules", path], stdout=subprocess.PIPE, stderr=subprocess.STDOUT)
+    return done.returncode == 0, done.stdout.decode()
+
+
+def main():
+    parser = argparse.ArgumentParser(description="Holds a vecop program against Prometheus, point by point.")
+    parser.add_argument("--vecop", required=True)
+    parser.add_argument("--promtool", default="promtool")
+    parser.add_argument("--seed", type=int, default=1)
+    parser.add_argument("--cases", type=int, default=4000)
+    args = parser.parse_args()
+    for program, need in ((args.promtool, "Debian's package `prometheus` brings it"), (args.vecop, "build it first")):
+        if shutil.which(program) is None:
+            sys.exit("%s is not there: %s" % (program, need))
+    rng = random.Random(args.seed)
+    kinds, counts, tests, failed = {}, {"points": 0, "elements": 0, "missing on the right": 0}, [], 0
+    skipped = 0
+
+    def run_batch():
+        nonlocal failed, tests
+        good, report = judge(args.promtool, tests) if tests else (True, "")
+        if not good:
+            # Find the case: each alone.
+            for test in tests:
+                good, report = judge(args.promtool, [test])
+                if not good:
+                    failed += 1
+                    if failed <= 5:
+                        print(test, report, sep="\n")
+        tests = []
+
+    while sum(kinds.values()) < args.cases:
+        case = Case(rng)
+        rows = vecop(args.vecop, case)
+        if isinstance(rows, str):
+            failed += 1
+            print("%s: %s" % (case.expression(), rows))
+            kinds[case.kind] = kinds.get(case.kind, 0) + 1
+            continue
+        test = unit_test(case, rows, counts)
+        if test is None:
+            skipped += 1
+            continue
+        kinds[case.kind] = kinds.get(case.kind, 0) + 1
+        tests.append(test)
+        if len(tests) == BATCH:
+            run_batch()
+    run_batch()
+    print("seed %d: %d cases (%s)" % (args.seed, sum(kinds.values()), ", ".join("%s %d" % k for k in sorted(kinds.items()))))
+    print("%(points)d points, %(elements)d elements compared" % counts)
+    print("%d elements of comparisons left out, their right reading missing" % counts["missing on the right"])
+    print("%d cases drawn again, their result having equal labels" % skipped)
+    print("%d cases differ" % failed)
+    sys.exit(failed != 0)
+
+
+if __name__ == "__main__":
+    main()

@@ -1,0 +1,140 @@
+//! 01's settled examples, and its one printed answer.
+use reference::*;
+
+const N: u64 = MISSING;
+
+fn row(values: &[f64]) -> Vec<u64> {
+    values.iter().map(|v| if v.is_nan() { N } else { v.to_bits() }).collect()
+}
+
+fn series(name: &str, tags: &[(&str, &str)], values: &[f64]) -> Series {
+    let tags = tags.iter().map(|(k, v)| Tag { key: k.as_bytes().to_vec(), value: v.as_bytes().to_vec() }).collect();
+    Series { labels: Labels { name: name.as_bytes().to_vec(), tags }, row: row(values) }
+}
+
+fn vector(series: Vec<Series>) -> Vector {
+    Vector { points: series.first().map_or(0, |s| s.row.len()), series }
+}
+
+fn query(op: Operator) -> Query {
+    Query {
+        op,
+        matching: Matching::None,
+        join: Join::OneToOne,
+        keep_names: false,
+        bool_flag: false,
+        matching_list: vec![],
+        join_list: vec![],
+    }
+}
+
+fn called(q: &Query, left: Vec<Series>, right: Vec<Series>) -> Outcome {
+    let (left_labels, left) = vector(left).parts();
+    let (right_labels, right) = vector(right).parts();
+    let room = Room { labels: 65_535, readings: 8_192 };
+    call(&Call { query: q.bytes(), left_labels, left, right_labels, right, room })
+}
+
+fn rows(outcome: Outcome) -> Vec<Vec<u64>> {
+    let a = outcome.expect("an answer");
+    a.readings.chunks(a.points).map(<[u64]>::to_vec).collect()
+}
+
+const NAN: f64 = f64::NAN;
+
+#[test]
+fn merging() {
+    let merged = |d: &[f64], s: &[f64]| {
+        let mut d = row(d);
+        (merge(&mut d, &row(s)), d)
+    };
+    assert_eq!(merged(&[1., NAN, 3., NAN], &[NAN, 2., NAN, 4.]), (Merged::Done, row(&[1., 2., 3., 4.])));
+    assert_eq!(merged(&[1., 2., 3.], &[9., 8., NAN]), (Merged::Done, row(&[9., 8., 3.])));
+    assert_eq!(merged(&[1., 2., 3.], &[9., 8., 7.]), (Merged::Overlapping, row(&[1., 2., 3.])));
+    assert_eq!(merged(&[1., NAN], &[NAN, 2.]).0, Merged::Overlapping);
+    assert_eq!(merged(&[1., NAN, NAN], &[NAN, 2., NAN]), (Merged::Done, row(&[1., 2., NAN])));
+    assert_eq!(merged(&[1.], &[NAN, 2.]).0, Merged::Unequal);
+}
+
+#[test]
+fn one_to_one_keeps_the_last() {
+    let left = vec![
+        series("u", &[("a", "x")], &[1., NAN, NAN]),
+        series("v", &[("a", "x")], &[NAN, 2., NAN]),
+        series("w", &[("a", "x")], &[NAN, NAN, 3.]),
+    ];
+    let right = vec![series("", &[("a", "x")], &[0., 0., 0.])];
+    let mut q = query(Operator::Add);
+    q.keep_names = true;
+    let a = called(&q, left, right).expect("an answer");
+    assert_eq!((a.readings, a.labels), (row(&[1., 2., 3.]), series("w", &[("a", "x")], &[]).labels.record()));
+}
+
+#[test]
+fn unless() {
+    let tag = [("a", "x")];
+    let q = query(Operator::Unless);
+    assert_eq!(rows(called(&q, vec![series("", &tag, &[1., 2.])], vec![series("", &tag, &[NAN, 5.])])), [row(&[1., NAN])]);
+    assert!(rows(called(&q, vec![series("", &tag, &[1., NAN])], vec![series("", &tag, &[4., NAN])])).is_empty());
+    assert_eq!(rows(called(&q, vec![series("", &tag, &[NAN, NAN])], vec![series("", &[], &[4., 4.])])), [row(&[NAN, NAN])]);
+}
+
+#[test]
+fn bool_comparisons() {
+    let three = 3f64.to_bits();
+    assert_eq!(combine(Operator::Eql, true, N, three), N);
+    assert_eq!(combine(Operator::NotEq, true, three, N), 1f64.to_bits());
+}
+
+#[test]
+fn fallback() {
+    let sides = || (vec![series("", &[("press", "A")], &[NAN, 2.])], vec![series("", &[], &[7., 7.])]);
+    let (l, r) = sides();
+    assert_eq!(rows(called(&query(Operator::Default), l, r)), [row(&[7., 2.])]);
+    let (l, r) = sides();
+    assert_eq!(rows(called(&query(Operator::Or), l, r)).len(), 2);
+}
+
+#[test]
+fn two_forms_share_a_waste_rate() {
+    let left = vec![series("", &[("form", "1"), ("press", "A")], &[1.]), series("", &[("form", "2"), ("press", "A")], &[2.])];
+    let right = vec![series("", &[("press", "A")], &[10.])];
+    let q =
+        Query { matching: Matching::On, matching_list: vec![b"press".to_vec()], join: Join::GroupLeft, ..query(Operator::Mul) };
+    assert_eq!(rows(called(&q, left, right)), [row(&[10.]), row(&[20.])]);
+}
+
+#[test]
+fn printed_quotient() {
+    let left = vec![series("fed", &[("press", "A")], &[10., NAN, 6.])];
+    let right = vec![series("waste", &[("press", "A")], &[2., 1., 3.])];
+    let (left_labels, left) = vector(left).parts();
+    let (right_labels, right) = vector(right).parts();
+    let c = Call {
+        query: query(Operator::Div).bytes(),
+        left_labels,
+        left,
+        right_labels,
+        right,
+        room: Room { labels: 0, readings: 0 },
+    };
+    let text = "answer 1 3\n{press=\"A\"} 4014000000000000 7ff8000000000000 4000000000000000\n";
+    assert_eq!(String::from_utf8(vecop(&frame(&c))).expect("text"), text);
+}
+
+#[test]
+fn limits() {
+    let tags = |n: usize| -> Vec<Tag> { (0..n).map(|i| Tag { key: vec![i as u8 + 1], value: vec![] }).collect() };
+    let part = |n: usize, p: usize, t: usize| {
+        let s = Series { labels: Labels { name: vec![], tags: tags(t) }, row: vec![N; p] };
+        Vector { points: p, series: vec![s; n] }.parts()
+    };
+    for (n, p, t) in [(512, 1, 1), (1, 1024, 1), (1, 1, 32)] {
+        let (labels, readings) = part(n, p, t);
+        assert!(take_vector(0, &labels, &readings).is_ok());
+    }
+    for (n, p, t) in [(513, 1, 1), (1, 1025, 1), (1, 1, 33)] {
+        let (labels, readings) = part(n, p, t);
+        assert_eq!(take_vector(0, &labels, &readings).expect_err("a refusal").number, 3);
+    }
+}

@@ -1,0 +1,177 @@
+//! The reference held against the Rust: labels, readings and duplicate errors, series order aside, all NaNs equal.
+use std::collections::HashMap;
+
+use reference::{answer, is_missing, run, taken, Call, Event, Join, Query, Room, Series, Vector, What, MISSING};
+
+use crate::rust::{self, Given};
+
+#[derive(Clone, Debug, PartialEq, Eq)]
+pub enum Verdict {
+    /// The Rust is the measure here, and agrees.
+    Agree(Agreement),
+    /// They differ as a listed difference says.
+    Known(Known),
+    /// The call cannot be put to the Rust.
+    Apart(&'static str),
+    Differ(String),
+}
+
+#[derive(Clone, Copy, Debug, PartialEq, Eq)]
+pub enum Agreement {
+    Answer,
+    /// Both name the same duplicate: its side and both series.
+    Duplicate,
+}
+
+/// The differences that are known: what 01 says, and what the Rust does. README.md says it at length, with the smallest input.
+#[derive(Clone, Copy, Debug, PartialEq, Eq, Hash, PartialOrd, Ord)]
+pub enum Known {
+    /// 01: `^` and `atan2` are refused with 1. The Rust runs them.
+    RefusedOperator,
+    /// 01: sides of different p are refused with 6. The Rust errs, panics, or gives a ragged or an empty answer.
+    UnequalPoints,
+    /// 01: every many-side series meets its match. The Rust's `group_join` empties the one side on the first of a key, and so
+    /// also misses a duplicate that only a later one would show.
+    JoinUsesUp,
+    /// 01: the first duplicate in answer order is named. The Rust names that of the key which its hash map gives first.
+    WhichDuplicate,
+    /// 01: over 512 series, 32 tags or 65,535 label bytes are refused with 9. The Rust has no limits.
+    NoLimits,
+    /// 01: a made NaN is 7ff8000000000000. In the Rust it has the sign or payload that the processor gives it.
+    NanBits,
+}
+
+impl Known {
+    pub const ALL: [Known; 6] =
+        [Known::RefusedOperator, Known::UnequalPoints, Known::JoinUsesUp, Known::WhichDuplicate, Known::NoLimits, Known::NanBits];
+}
+
+/// Room that no answer within the limits outgrows: the Rust allocates its own.
+const AMPLE: Room = Room { labels: usize::MAX, readings: usize::MAX };
+
+pub fn compare(call: &Call) -> Verdict {
+    if let [op @ (2 | 8), rest @ ..] = call.query.as_slice() {
+        return refused_operator(call, *op, rest);
+    }
+    let Ok((query, left, right)) = taken(call) else {
+        return Verdict::Apart("refused by 1 to 5");
+    };
+    let Some(argument) = rust::argument(&query, &left, &right) else {
+        return Verdict::Apart("not UTF-8");
+    };
+    let given = rust::run(argument);
+    if left.points != right.points {
+        return Verdict::Known(Known::UnequalPoints);
+    }
+    let all = run(&query, &left, &right);
+    let seen = as_seen(&query, &left, &right, &all);
+    let used_up = seen.len() < all.len();
+    match agrees(&left, &right, &seen, &given) {
+        Err(difference) => Verdict::Differ(difference),
+        Ok(_) if used_up => Verdict::Known(Known::JoinUsesUp),
+        Ok(Detail::OtherDuplicate) => Verdict::Known(Known::WhichDuplicate),
+        Ok(Detail::Duplicate) => Verdict::Agree(Agreement::Duplicate),
+        Ok(_) if answer(&query, &left, &right, AMPLE).is_err() => Verdict::Known(Known::NoLimits),
+        Ok(Detail::NanBits) => Verdict::Known(Known::NanBits),
+        Ok(Detail::Same) => Verdict::Agree(Agreement::Answer),
+    }
+}
+
+/// Shows that the Rust runs what 01 refuses: the same call under `+` is good, and under this operator the Rust does not err.
+fn refused_operator(call: &Call, op: u8, rest: &[u8]) -> Verdict {
+    let mut carried = call.clone();
+    carried.query = [&[0], rest].concat();
+    let Ok((mut query, left, right)) = taken(&carried) else {
+        return Verdict::Apart("refused by 1 to 5");
+    };
+    query.op = reference::Operator::ALL[usize::from(op)];
+    match rust::argument(&query, &left, &right).map(rust::run) {
+        None => Verdict::Apart("not UTF-8"),
+        Some(_) => Verdict::Known(Known::RefusedOperator),
+    }
+}
+
+/// The events that the Rust can come to: in a join, those of the first many-side series of each key (`Known::JoinUsesUp`).
+/// Where a key has one many-side series, as 01 admits to the runs, these are all.
+fn as_seen(query: &Query, left: &Vector, right: &Vector, all: &[Event]) -> Vec<Event> {
+    if query.op.is_logical_op() || matches!(query.join, Join::OneToOne | Join::ManyToMany) {
+        return all.to_vec();
+    }
+    let many = if query.join == Join::GroupLeft { left } else { right };
+    let mut first_of_key = HashMap::new();
+    for (place, s) in many.series.iter().enumerate() {
+        if query.op.is_comparison() || !s.row.iter().all(|r| is_missing(*r)) {
+            let key: Vec<(Vec<u8>, Vec<u8>)> = s.labels.key(query).into_iter().map(|t| (t.key, t.value)).collect();
+            first_of_key.entry(key).or_insert(place);
+        }
+    }
+    let firsts: Vec<usize> = first_of_key.into_values().collect();
+    all.iter().filter(|e| firsts.contains(&e.rank.0)).cloned().collect()
+}
+
+enum Detail {
+    Same,
+    /// Equal but for the patterns of NaNs.
+    NanBits,
+    Duplicate,
+    /// A duplicate that is not the first in answer order.
+    OtherDuplicate,
+}
+
+fn agrees(left: &Vector, right: &Vector, events: &[Event], given: &Given) -> Result<Detail, String> {
+    let mut events = events.to_vec();
+    events.sort_by_key(|e| e.rank);
+    let endings: Vec<String> = events.iter().filter_map(|e| ending(left, right, &e.what)).collect();
+    let mut expected: Vec<Series> = events
+        .into_iter()
+        .filter_map(|e| match e.what {
+            What::Series(s) => Some(s),
+            What::Duplicate { .. } => None,
+        })
+        .collect();
+    match given {
+        Given::Duplicate(message) => match endings.iter().position(|e| named(message, e)) {
+            Some(0) => Ok(Detail::Duplicate),
+            Some(_) => Ok(Detail::OtherDuplicate),
+            None => Err(format!("the Rust says `{message}`, the reference {endings:?}")),
+        },
+        Given::Answer(series) if endings.is_empty() => {
+            let mut series = series.clone();
+            let exact = sorted(&mut series) == sorted(&mut expected);
+            if exact {
+                return Ok(Detail::Same);
+            }
+            for s in series.iter_mut().chain(&mut expected) {
+                s.row.iter_mut().filter(|r| is_missing(**r)).for_each(|r| *r = MISSING);
+            }
+            if sorted(&mut series) == sorted(&mut expected) {
+                Ok(Detail::NanBits)
+            } else {
+                Err(format!("the Rust gives {series:x?}, the reference {expected:x?}"))
+            }
+        }
+        Given::Answer(series) => Err(format!("the Rust gives {series:x?}, the reference {endings:?}")),
+        Given::OtherError(message) => Err(format!("the Rust errs, `{message}`, the reference {endings:?}, else {expected:x?}")),
+        Given::Panic => Err(format!("the Rust panics, the reference {endings:?}, else {expected:x?}")),
+    }
+}
+
+fn sorted(series: &mut [Series]) -> &mut [Series] {
+    series.sort_by(|a, b| (&a.labels, &a.row).cmp(&(&b.labels, &b.row)));
+    series
+}
+
+/// The side, and the end of the message that names both series.
+fn ending(left: &Vector, right: &Vector, what: &What) -> Option<String> {
+    let What::Duplicate { right: is_right, kept, failed } = what else {
+        return None;
+    };
+    let (side, vector) = if *is_right { ("right", right) } else { ("left", left) };
+    let shown = |place: &usize| rust::shown(&vector.series[*place].labels);
+    Some(format!("{side}|: {} and {}", shown(kept), shown(failed)))
+}
+
+fn named(message: &str, ending: &str) -> bool {
+    let (side, end) = ending.split_once('|').expect("a side and an end");
+    message.starts_with(&format!("duplicate time series on the {side} side of ")) && message.ends_with(end)
+}

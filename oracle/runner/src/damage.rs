@@ -1,0 +1,237 @@
+//! Cases at and beyond the edges: damaged inputs of every kind, limits, and lent parts of every length. The Rust takes no bytes,
+//! so these are for the reference and the library alone.
+use reference::{
+    call as reference_call, Call, Join, Labels, Matching, Operator, Query, Room, Series, Tag, Vector, MISSING, NAME,
+};
+
+use crate::cases::{call, plain, random, Extent, CARRIED, ROOM};
+use crate::random::Random;
+
+/// A case to be damaged: small, with some tags on either side.
+fn whole(r: &mut Random) -> Call {
+    let op = r.pick(&CARRIED);
+    let utf8 = r.one_in(2);
+    random(r, op, Extent::Tiny, utf8)
+}
+
+/// Each part cut at every length, and with a byte or a reading too many.
+pub fn cuts(r: &mut Random, rounds: usize, visit: &mut dyn FnMut(Call)) {
+    for _ in 0..rounds {
+        let c = whole(r);
+        for k in 0..c.query.len() {
+            visit(Call { query: c.query[..k].to_vec(), ..c.clone() });
+        }
+        for k in 0..c.left_labels.len() {
+            visit(Call { left_labels: c.left_labels[..k].to_vec(), ..c.clone() });
+            visit(Call { left_labels: restated(&c.left_labels, k), ..c.clone() });
+        }
+        for k in 0..c.right_labels.len() {
+            visit(Call { right_labels: c.right_labels[..k].to_vec(), ..c.clone() });
+            visit(Call { right_labels: restated(&c.right_labels, k), ..c.clone() });
+        }
+        for k in 0..c.left.len() {
+            visit(Call { left: c.left[..k].to_vec(), ..c.clone() });
+        }
+        for k in 0..c.right.len() {
+            visit(Call { right: c.right[..k].to_vec(), ..c.clone() });
+        }
+        visit(Call { query: [c.query.as_slice(), &[0]].concat(), ..c.clone() });
+        visit(Call { left_labels: [c.left_labels.as_slice(), &[0]].concat(), ..c.clone() });
+        visit(Call {
+            right_labels: restated(&[c.right_labels.as_slice(), &[0]].concat(), c.right_labels.len() + 1),
+            ..c.clone()
+        });
+        visit(Call { left: [c.left.as_slice(), &[0]].concat(), ..c.clone() });
+        visit(Call { right: [c.right.as_slice(), &[0]].concat(), ..c });
+    }
+}
+
+/// The first `k` bytes, with the array's stated length to suit, so that the cut falls within a record.
+fn restated(part: &[u8], k: usize) -> Vec<u8> {
+    let mut out = part[..k].to_vec();
+    if k >= 6 {
+        out[4..6].copy_from_slice(&((k - 6) as u16).to_le_bytes());
+    }
+    out
+}
+
+/// One to four bytes changed anywhere, lengths and sizes with them, in one part or several: which fault comes first is the point.
+pub fn changed_bytes(r: &mut Random, visit: &mut dyn FnMut(Call)) {
+    let mut c = whole(r);
+    for _ in 0..1 + r.below(4) {
+        let part = match r.below(3) {
+            0 => &mut c.query,
+            1 => &mut c.left_labels,
+            _ => &mut c.right_labels,
+        };
+        if part.is_empty() {
+            continue;
+        }
+        let at = if r.one_in(2) { r.below(part.len().min(8)) } else { r.below(part.len()) };
+        part[at] = match r.below(4) {
+            0 => r.word() as u8,
+            1 => part[at].wrapping_add(1),
+            2 => part[at].wrapping_sub(1),
+            _ => r.pick(&[0, 1, 2, 3, 4, 8, 18, 19, 32, 33, 255]),
+        };
+        if r.one_in(6) {
+            c.left.push(0);
+        }
+        if r.one_in(6) {
+            c.right.pop();
+        }
+    }
+    visit(c);
+}
+
+/// Keys that are empty, `__name__`, repeated or out of order, in any record of either side, with a cut behind them at times.
+pub fn bad_keys(r: &mut Random, visit: &mut dyn FnMut(Call)) {
+    let sides: Vec<Vector> = (0..2)
+        .map(|_| {
+            let series = (0..1 + r.below(3))
+                .map(|_| {
+                    let keys: [&[u8]; 5] = [b"a", b"b", b"", NAME, b"c"];
+                    let tag = |k: &[u8]| Tag { key: k.to_vec(), value: b"v".to_vec() };
+                    let tags = (0..r.below(4)).map(|_| tag(keys[r.below(5)])).collect();
+                    Series { labels: Labels { name: vec![], tags }, row: vec![0] }
+                })
+                .collect();
+            Vector { points: 1, series }
+        })
+        .collect();
+    let mut c = call(&plain(r.pick(&CARRIED)), &sides[0], &sides[1], ROOM);
+    if r.one_in(3) {
+        let k = r.below(c.left_labels.len() + 1);
+        c.left_labels = restated(&c.left_labels, k);
+    }
+    if r.one_in(3) {
+        let k = r.below(c.right_labels.len() + 1);
+        c.right_labels = restated(&c.right_labels, k);
+    }
+    visit(c);
+}
+
+/// Sides of different p, empty ones included, with faults before them at times.
+pub fn unequal_points(r: &mut Random, visit: &mut dyn FnMut(Call)) {
+    let mut c = whole(r);
+    let other = whole(r);
+    if r.one_in(2) {
+        c.right_labels = other.right_labels;
+        c.right = other.right;
+    } else {
+        c.left_labels = other.left_labels;
+        c.left = other.left;
+    }
+    visit(c);
+}
+
+/// Output parts that are just long enough, one short in either, empty, or longer.
+pub fn rooms(r: &mut Random, visit: &mut dyn FnMut(Call)) {
+    let mut c = whole(r);
+    let (labels, readings) = reference_call(&c).map_or((4, 4), |a| (a.labels.len(), a.readings.len()));
+    for room in [
+        Room { labels, readings },
+        Room { labels: labels.saturating_sub(1), readings },
+        Room { labels, readings: readings.saturating_sub(1) },
+        Room { labels: 0, readings: 0 },
+        Room { labels: labels + r.below(9), readings: readings + r.below(9) },
+    ] {
+        c.room = room;
+        visit(c.clone());
+    }
+}
+
+fn tagged(n: usize, width: usize) -> Labels {
+    let tag = |i: usize| Tag { key: format!("k{i:02}").into_bytes(), value: vec![b'v'; width] };
+    Labels { name: vec![], tags: (0..n).map(tag).collect() }
+}
+
+fn series(labels: Labels, p: usize) -> Series {
+    Series { labels, row: vec![0x3ff0_0000_0000_0000; p] }
+}
+
+fn numbered(n: usize, p: usize, key: &[u8]) -> Vector {
+    let one = |i: usize| {
+        let tags = vec![Tag { key: key.to_vec(), value: format!("{i:03}").into_bytes() }];
+        series(Labels { name: vec![], tags }, p)
+    };
+    Vector { points: p, series: (0..n).map(one).collect() }
+}
+
+/// The limits of 01, at them and one beyond: in what is taken (3) and in what is answered (9).
+pub fn limits(visit: &mut dyn FnMut(Call)) {
+    let big = Room { labels: 65_535, readings: 524_288 };
+    let add = plain(Operator::Add);
+    let or = plain(Operator::Or);
+    // Taken: 512 and 513 series, 1,024 and 1,025 points, 32 and 33 tags, names of 255 bytes.
+    for n in [512, 513] {
+        for op in [&add, &or] {
+            visit(call(op, &numbered(n, 2, b"a"), &numbered(2, 2, b"a"), big));
+            visit(call(op, &numbered(2, 2, b"a"), &numbered(n, 2, b"a"), big));
+        }
+    }
+    for p in [1024, 1025] {
+        visit(call(&add, &numbered(3, p, b"a"), &numbered(3, p, b"a"), big));
+    }
+    visit(call(&add, &numbered(512, 1024, b"a"), &numbered(512, 1024, b"a"), big));
+    for n in [32, 33] {
+        for width in [0, 255] {
+            let side = Vector { points: 1, series: vec![series(tagged(n, width), 1)] };
+            visit(call(&add, &side, &side, big));
+        }
+    }
+    // Answered: a join of 22 or 23 on 23 has 506 or 529 series, of 16 on 32 exactly 512; 1 on 1 to 33 tags by `*`.
+    let group = |list: &[u8]| Query {
+        matching: Matching::On,
+        matching_list: vec![b"z".to_vec()],
+        join: Join::GroupLeft,
+        join_list: vec![list.to_vec()],
+        ..plain(Operator::Mul)
+    };
+    for (many, one) in [(16, 32), (22, 23), (23, 23), (512, 2), (2, 512), (1, 512), (512, 512)] {
+        for join in [Join::GroupLeft, Join::GroupRight] {
+            let query = Query { join, ..group(b"b") };
+            visit(call(&query, &numbered(many, 1, b"a"), &numbered(one, 1, b"b"), big));
+        }
+    }
+    // A duplicate comes before too many series, wherever it ranks.
+    let mut doubled = numbered(23, 1, b"b");
+    doubled.series[22].labels = doubled.series[21].labels.clone();
+    visit(call(&group(b"b"), &numbered(23, 1, b"a"), &doubled, big));
+    for extra in 0..3 {
+        let many = Vector { points: 1, series: vec![series(tagged(31, 1), 1)] };
+        let other = |i: usize| Tag { key: format!("m{i}").into_bytes(), value: vec![] };
+        let one = Labels { name: vec![], tags: (0..extra).map(other).collect() };
+        visit(call(&group(b"*"), &many, &Vector { points: 1, series: vec![series(one, 1)] }, big));
+    }
+    // `or` of 256 and 256, or 257: 512, or 513.
+    for n in [256, 257] {
+        visit(call(&or, &numbered(256, 1, b"a"), &numbered(n, 1, b"b"), big));
+    }
+    // Label bytes: 65,535 and one more, by a join that copies a long value onto many, and by `or`.
+    for value in [120, 124, 125, 126, 127, 255] {
+        let many = numbered(512, 1, b"a");
+        let long = Labels { name: vec![], tags: vec![Tag { key: b"b".to_vec(), value: vec![b'v'; value] }] };
+        visit(call(&group(b"b"), &many, &Vector { points: 1, series: vec![series(long, 1)] }, big));
+    }
+    for total in [65_534, 65_535, 65_536] {
+        let (left, right) = sides_of_bytes(total);
+        for labels in [65_535, 65_534, 100] {
+            visit(call(&or, &left, &right, Room { labels, readings: 524_288 }));
+        }
+    }
+    // 9 comes before 10.
+    visit(call(&group(b"b"), &numbered(23, 1, b"a"), &numbered(23, 1, b"b"), Room { labels: 0, readings: 0 }));
+}
+
+/// Two sides of distinct labels whose records have `total` bytes in all: records of 246 bytes, and the rest in the last's name.
+fn sides_of_bytes(total: usize) -> (Vector, Vector) {
+    let side = |key: u8, bytes: usize| {
+        let tags = |i: usize| vec![Tag { key: vec![key, i as u8], value: vec![b'v'; 240] }];
+        let one = |i: usize| Series { labels: Labels { name: vec![], tags: tags(i) }, row: vec![MISSING] };
+        let mut all: Vec<Series> = (0..bytes / 246).map(one).collect();
+        all.last_mut().expect("a series").labels.name = vec![b'n'; bytes % 246];
+        Vector { points: 1, series: all }
+    };
+    (side(b'a', 32_767), side(b'b', total - 32_767))
+}

@@ -1,0 +1,10 @@
+//! Cases, and the comparisons that the program `oracle` and the measurements in bench/ share.
+pub mod cases;
+pub mod compare;
+pub mod damage;
+pub mod known;
+pub mod library;
+pub mod random;
+pub mod rust;
+pub mod sample;
+pub mod tally;

@@ -1,0 +1,143 @@
+//! The library under test, held against the reference bit for bit.
+use std::io::{Read, Write};
+use std::process::{Command, Stdio};
+
+use reference::{vecop, Call};
+
+/// A program or a linked library that takes calls.
+pub trait Library {
+    fn name(&self) -> String;
+
+    /// Runs the call and compares all that it gives and leaves behind with the reference.
+    fn check(&mut self, call: &Call) -> Result<(), String>;
+}
+
+/// The program `vecop`, run once a call. Its output parts have their own lengths, so the call's room is not looked at.
+pub struct Program {
+    pub path: String,
+}
+
+impl Program {
+    pub fn prints(&self, input: &[u8]) -> Result<Vec<u8>, String> {
+        let mut child = Command::new(&self.path)
+            .stdin(Stdio::piped())
+            .stdout(Stdio::piped())
+            .spawn()
+            .map_err(|e| format!("{}: {e}", self.path))?;
+        let mut stdin = child.stdin.take().expect("piped");
+        let mut stdout = child.stdout.take().expect("piped");
+        // It reads all before it prints; where it stops reading at its limit, the pipe may be closed on us.
+        let _ = stdin.write_all(input);
+        drop(stdin);
+        let mut printed = Vec::new();
+        stdout.read_to_end(&mut printed).map_err(|e| e.to_string())?;
+        let status = child.wait().map_err(|e| e.to_string())?;
+        if status.success() {
+            Ok(printed)
+        } else {
+            Err(format!("{} ended with {status}", self.path))
+        }
+    }
+
+    pub fn check_input(&self, input: &[u8]) -> Result<(), String> {
+        let (printed, expected) = (self.prints(input)?, vecop(input));
+        if printed == expected {
+            return Ok(());
+        }
+        let shown = |b: &[u8]| String::from_utf8_lossy(&b[..b.len().min(2000)]).into_owned();
+        Err(format!("vecop prints\n{}the reference\n{}", shown(&printed), shown(&expected)))
+    }
+}
+
+impl Library for Program {
+    fn name(&self) -> String {
+        format!("vecop ({})", self.path)
+    }
+
+    fn check(&mut self, call: &Call) -> Result<(), String> {
+        self.check_input(&reference::frame(call))
+    }
+}
+
+/// The static library, through its C interface. It is lent the middle of two buffers that hold a pattern: what it may not
+/// change, behind an answer, under a refusal or beyond the lent part, must hold the pattern afterwards.
+#[cfg(feature = "library")]
+#[derive(Default)]
+pub struct Linked {
+    label_pattern: Vec<u8>,
+    reading_pattern: Vec<u64>,
+    labels: Vec<u8>,
+    readings: Vec<u64>,
+}
+
+#[cfg(feature = "library")]
+const BORDER: usize = 16;
+
+#[cfg(feature = "library")]
+impl Linked {
+    fn grow(&mut self, room: reference::Room) {
+        while self.labels.len() < room.labels + 2 * BORDER {
+            let byte = (self.labels.len() * 151 + 7) as u8;
+            self.label_pattern.push(byte);
+            self.labels.push(byte);
+        }
+        while self.readings.len() < room.readings + 2 * BORDER {
+            let word = (self.readings.len() as u64).wrapping_mul(0x9e37_79b9_7f4a_7c15) ^ 0x5bd1_e995;
+            self.reading_pattern.push(word);
+            self.readings.push(word);
+        }
+    }
+}
+
+#[cfg(feature = "library")]
+impl Library for Linked {
+    fn name(&self) -> String {
+        "the linked library".to_string()
+    }
+
+    fn check(&mut self, call: &Call) -> Result<(), String> {
+        self.grow(call.room);
+        let given = nosingcatnip::exec_binop(
+            &call.query,
+            nosingcatnip::Side { labels: &call.left_labels, readings: &call.left },
+            nosingcatnip::Side { labels: &call.right_labels, readings: &call.right },
+            &mut self.labels[BORDER..BORDER + call.room.labels],
+            &mut self.readings[BORDER..BORDER + call.room.readings],
+        );
+        let given = given.map(|a| (a.series, a.points, a.label_bytes)).map_err(|r| (r.number, r.fields));
+        let (expected, labels, readings) = match reference::call(call) {
+            Err(r) => (Err((r.number, r.fields)), vec![], vec![]),
+            Ok(a) => (Ok((a.series, a.points, a.labels.len())), a.labels, a.readings),
+        };
+        let wrong_label = left_behind(&mut self.labels, &self.label_pattern, &labels);
+        let wrong_reading = left_behind(&mut self.readings, &self.reading_pattern, &readings);
+        if given != expected {
+            return Err(format!("the library gives {given:?}, the reference {expected:?}"));
+        }
+        if let Some(at) = wrong_label {
+            return Err(format!("the label byte at {at} of the lent part differs"));
+        }
+        match wrong_reading {
+            Some(at) => Err(format!("the reading at {at} of the lent part differs")),
+            None => Ok(()),
+        }
+    }
+}
+
+/// Where a lent buffer first differs from the answer and the pattern around it, counted from the start of the lent part; the
+/// pattern is put back.
+#[cfg(feature = "library")]
+fn left_behind<T: Copy + PartialEq>(buffer: &mut [T], pattern: &[T], answer: &[T]) -> Option<isize> {
+    let end = BORDER + answer.len();
+    let as_expected = buffer[..BORDER] == pattern[..BORDER] && buffer[BORDER..end] == *answer && buffer[end..] == pattern[end..];
+    let wrong = if as_expected {
+        buffer[BORDER..end].copy_from_slice(&pattern[BORDER..end]);
+        None
+    } else {
+        let expected = pattern[..BORDER].iter().chain(answer).chain(&pattern[end..]);
+        let at = buffer.iter().zip(expected).position(|(b, e)| b != e);
+        buffer.copy_from_slice(pattern);
+        at
+    };
+    wrong.map(|at| at as isize - BORDER as isize)
+}

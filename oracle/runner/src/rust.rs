@@ -1,0 +1,103 @@
+//! The Rust's `exec_binop`, run on taken vectors.
+use std::panic::{catch_unwind, AssertUnwindSafe};
+use std::sync::Arc;
+
+use metricsql_parser::ast::Operator as RustOperator;
+use metricsql_parser::prelude::{BinModifier, Labels as RustLabels, VectorMatchCardinality, VectorMatchModifier};
+use metricsql_runtime::{exec_binop, MetricName, RuntimeError, Tag as RustTag, Timeseries};
+use reference::{Join, Labels, Matching, Operator, Query, Series, Tag, Vector};
+
+/// What the Rust gave.
+#[derive(Debug)]
+pub enum Given {
+    Answer(Vec<Series>),
+    /// Its message, which names the side and the two series.
+    Duplicate(String),
+    OtherError(String),
+    Panic,
+}
+
+/// An argument as the Rust has it. It holds names as `String`: labels that are not UTF-8 have none.
+pub struct Argument {
+    pub op: RustOperator,
+    pub modifier: Option<BinModifier>,
+    pub left: Vec<Timeseries>,
+    pub right: Vec<Timeseries>,
+}
+
+pub fn argument(query: &Query, left: &Vector, right: &Vector) -> Option<Argument> {
+    Some(Argument { op: operator(query.op), modifier: modifier(query)?, left: timeseries(left)?, right: timeseries(right)? })
+}
+
+pub fn run(argument: Argument) -> Given {
+    let Argument { op, modifier, left, right } = argument;
+    match catch_unwind(AssertUnwindSafe(|| exec_binop(op, &modifier, left, right))) {
+        Err(_) => Given::Panic,
+        Ok(Ok(series)) => Given::Answer(series.iter().map(back).collect()),
+        Ok(Err(RuntimeError::General(message))) if message.starts_with("duplicate time series on the ") => {
+            Given::Duplicate(message)
+        }
+        Ok(Err(error)) => Given::OtherError(format!("{error:?}")),
+    }
+}
+
+/// How the Rust writes a series' labels in a message.
+pub fn shown(labels: &Labels) -> String {
+    metric_name(labels).map_or_else(String::new, |m| m.to_string())
+}
+
+fn operator(op: Operator) -> RustOperator {
+    use RustOperator::*;
+    [Add, And, Atan2, Default, Div, Eql, Mod, Mul, Pow, Sub, Gt, Gte, If, IfNot, Lt, Lte, NotEq, Or, Unless][op as usize]
+}
+
+/// The struct is built directly: its builder resets the join where there is no matching. A query without any modifier has none.
+fn modifier(query: &Query) -> Option<Option<BinModifier>> {
+    let matching = match query.matching {
+        Matching::None => None,
+        Matching::On => Some(VectorMatchModifier::On(list(&query.matching_list)?)),
+        Matching::Ignoring => Some(VectorMatchModifier::Ignoring(list(&query.matching_list)?)),
+    };
+    let card = match query.join {
+        Join::OneToOne => VectorMatchCardinality::OneToOne,
+        Join::GroupLeft => VectorMatchCardinality::ManyToOne(list(&query.join_list)?),
+        Join::GroupRight => VectorMatchCardinality::OneToMany(list(&query.join_list)?),
+        Join::ManyToMany => VectorMatchCardinality::ManyToMany,
+    };
+    let modifier = BinModifier { card, matching, keep_metric_names: query.keep_names, return_bool: query.bool_flag };
+    Some(if modifier.is_default() { None } else { Some(modifier) })
+}
+
+/// In the query's order: the Rust's constructors would sort.
+fn list(labels: &[Vec<u8>]) -> Option<RustLabels> {
+    let mut out = RustLabels::default();
+    for label in labels {
+        out.push(text(label)?);
+    }
+    Some(out)
+}
+
+fn text(bytes: &[u8]) -> Option<String> {
+    String::from_utf8(bytes.to_vec()).ok()
+}
+
+fn metric_name(labels: &Labels) -> Option<MetricName> {
+    let tag = |t: &Tag| Some(RustTag { key: text(&t.key)?, value: text(&t.value)? });
+    Some(MetricName { metric_group: text(&labels.name)?, tags: labels.tags.iter().map(tag).collect::<Option<_>>()? })
+}
+
+fn timeseries(vector: &Vector) -> Option<Vec<Timeseries>> {
+    let timestamps = Arc::new((0..vector.points as i64).map(|i| i * 3_600_000).collect::<Vec<i64>>());
+    let one = |s: &Series| {
+        let values = s.row.iter().map(|r| f64::from_bits(*r)).collect();
+        Some(Timeseries { metric_name: metric_name(&s.labels)?, values, timestamps: Arc::clone(&timestamps) })
+    };
+    vector.series.iter().map(one).collect()
+}
+
+fn back(ts: &Timeseries) -> Series {
+    let tag = |t: &RustTag| Tag { key: t.key.clone().into_bytes(), value: t.value.clone().into_bytes() };
+    let labels =
+        Labels { name: ts.metric_name.metric_group.clone().into_bytes(), tags: ts.metric_name.tags.iter().map(tag).collect() };
+    Series { labels, row: ts.values.iter().map(|v| v.to_bits()).collect() }
+}
