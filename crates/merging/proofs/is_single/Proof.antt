@@ -1,0 +1,9 @@
+-- `is_single` meets its contract. Assumes nothing.
+use Rattle.merging.proofs.is_single.Statement.{statement}
+use Rattle.merging.proofs.is_single.Tie as tie
+
+returns : tie.Need-returns
+returns c = cc
+
+pub is-single-spec : {M : Type 1} → statement M
+is-single-spec = tie.close (tie.spec (λ c κs. tt) (λ c κs. tt) returns)
