@@ -21,7 +21,8 @@ use Rattle.plan.specs.Merging.{rowAt, RowMerge, row, failedAt, onRow, mergeGrou
 use Rattle.merging.specs.declared.Merges.{Merges}
 use Rattle.merging.specs.declared.Merges.the-variants.{Done, FailedAt}
 use Rattle.merging.specs.Groups.{absorbedOne, thereIf, AbsorbedAs, MergedGroup}
-use Rattle.merging.specs.Laws.{last-within}
+use Rattle.timeseries.specs.Places as Places
+use Rattle.merging.specs.Laws.{last-places, last-within}
 
 -- `absorb`
 
@@ -138,7 +139,10 @@ row-long i n p rows h room =
     length-take-le p (drop (i * p) rows) (let z = row-of i n p rows h room in omega (arith, z, length-drop (i * p) rows))
 
 module _ (rows keys : List ℕ) (p : ℕ) (room : length keys * p ≤ length rows) where
-  module _ (k : ℕ) (h : firstOf keys k < length keys) (last : ℕ) (hl : last ≡ lastOf keys k) where
+  module _ (k : ℕ) (h : firstOf keys k < length keys) (last : ℕ) (found : last ≡ Places.lastOf keys k) where
+    hl : last ≡ lastOf keys k
+    hl = found ∙ last-places k keys
+
     within : last < length keys
     within = rw hl (last-within k keys h)
 

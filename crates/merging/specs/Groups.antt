@@ -11,10 +11,6 @@ use Rattle.plan.specs.Merging.{rowAt, RowMerge, row, failedAt}
 use Rattle.merging.specs.declared.Merges.{Merges}
 use Rattle.merging.specs.declared.Merges.the-variants.{Done, FailedAt}
 
--- the place i where its key x is k, else the one found before
-abbrev pub laterOf : ℕ → ℕ → ℕ → ℕ → ℕ
-laterOf x k i found = cond (eqb x k) i found
-
 -- d with the row of the series i, whose group is x, merged into it if that is g
 abbrev pub absorbedOne : ℕ → List ℕ → ℕ → ℕ → ℕ → List ℕ → Option (List ℕ)
 absorbedOne allowance rows x g i d = cond (eqb x g) (merged allowance d (rowAt (length d) rows i)) (some d)

@@ -1,96 +1,71 @@
--- Laws of first and last places, and of merges of a key: a key of one series is its row. Assumes nothing.
-use Prim.Native.Nat.{ℕ, zero, suc, _+_, _-_, _*_, _≤_, _<_}
+-- First and last places as the code finds them are the plan's; and a key of one series is its row. Assumes nothing.
+use Prim.Native.Nat.{ℕ, zero, suc, _+_, _≤_, _<_}
 use mathlib.Core.Path.{_≡_, refl, sym, ap, _∙_}
 use mathlib.Core.Bool.{Bool, true, false, cond}
-use mathlib.Core.Option.{Option, none, some}
 use mathlib.Core.List.{List, [], _∷_}
 use native.Mathlib.Omega.{arith}
 use lib.Dec.{eqb, ltb}
-use lib.ListN.{length, getD, take, drop}
-use borrow.Author.Tests.{eqb-true, eqb-false, ltb-true, ltb-false}
+use lib.ListN.{length, getD, take}
+use borrow.Author.Tests.{eqb-true, eq-eqb, ltb-true, ltb-false, lt-ltb, le-ltb}
 use Rattle.model.specs.Lists.{cases}
+use Rattle.timeseries.specs.Places as Places
+use Rattle.timeseries.specs.Places.{firstWhere, lastWhere, last-later, last-here, last-absent}
 use Rattle.plan.specs.Keys.{firstOf, lastFrom, lastOf}
-use Rattle.plan.specs.Merging.{rowAt, RowMerge, row, mergeGroup, mergeLast}
-
--- a key's first place
+use Rattle.plan.specs.Merging.{rowAt, row, mergeGroup, mergeLast}
 
 module _ (k : ℕ) where
-  first-here : (x : ℕ) (xs : List ℕ) → eqb x k ≡ true → firstOf (x ∷ xs) k ≡ 0
-  unfolding firstOf
-  first-here x xs e = rw e
+  abbrev isKey : ℕ → Bool
+  isKey x = eqb x k
 
-  first-later : (x : ℕ) (xs : List ℕ) → eqb x k ≡ false → firstOf (x ∷ xs) k ≡ suc (firstOf xs k)
-  unfolding firstOf
-  first-later x xs e = rw e
+  pub first-places : (keys : List ℕ) → Places.firstOf keys k ≡ firstOf keys k
+  unfolding firstWhere firstOf
+  first-places [] = refl
+  first-places (x ∷ xs) = rw (first-places xs)
 
-  pub first-at-most : (keys : List ℕ) → firstOf keys k ≤ length keys
-  unfolding firstOf
-  first-at-most [] = omega arith
-  first-at-most (x ∷ xs) = cases (eqb x k) (λ e. rw e (omega arith)) (λ e. rw e (omega (arith, first-at-most xs)))
-
-  pub first-is : (keys : List ℕ) → firstOf keys k < length keys → getD keys (firstOf keys k) 0 ≡ k
-  first-is [] h = absurd (omega arith)
-  first-is (x ∷ xs) h =
-      cases (eqb x k)
-      (λ e. rw (first-here x xs e) (eqb-true x k e))
-      (λ e. rw (first-later x xs e) (first-is xs (let f = first-later x xs e in omega (arith, h, f))))
-
-  -- a place with the key is not before the first
-  pub first-before : (keys : List ℕ) (i : ℕ) → i < length keys → getD keys i 0 ≡ k → firstOf keys k ≤ i
-  first-before [] i h g = absurd (omega arith)
-  first-before (x ∷ xs) zero h g = rw (first-here x xs (eq-here x g)) (omega arith)
-    where
-      eq-here : (x : ℕ) → x ≡ k → eqb x k ≡ true
-      eq-here x g = cases (eqb x k) (λ e. e) (λ e. absurd (eqb-false x k e g))
-  first-before (x ∷ xs) (suc i) h g =
-      cases (eqb x k)
-      (λ e. rw (first-here x xs e) (omega arith))
-      (λ e. rw (first-later x xs e) (let f = first-before xs i (omega arith) g in omega (arith, f)))
-
-  -- a key's last place
-
-  -- r is a place with the key, where the keys are those from the place i on
-  pub record KeyAt (keys : List ℕ) (i r : ℕ) : Type 0 where
-    pub offset : ℕ
-    pub place : r ≡ i + offset
-    pub within : offset < length keys
-    pub key : getD keys offset 0 ≡ k
-
-  last-none : (keys : List ℕ) (found i : ℕ) → length keys ≤ firstOf keys k → lastFrom found i keys k ≡ found
+  -- from the place i on
+  last-from : (keys : List ℕ) (found i : ℕ) → lastFrom found i keys k ≡ cond (ltb (Places.lastOf keys k) (length keys)) (i + Places.lastOf keys k) found
   unfolding lastFrom
-  last-none [] found i h = refl
-  last-none (x ∷ xs) found i h =
-      cases (eqb x k)
-      (λ e. absurd (let f = first-here x xs e in omega (arith, h, f)))
-      (λ e. rw e (last-none xs found (suc i) (let f = first-later x xs e in omega (arith, h, f))))
-
-  last-at : (keys : List ℕ) (found i : ℕ) → firstOf keys k < length keys → KeyAt keys i (lastFrom found i keys k)
-  unfolding lastFrom
-  last-at [] found i h = absurd (omega arith)
-  last-at (x ∷ xs) found i h =
-      cases (ltb (firstOf xs k) (length xs))
-      (λ e. behind (last-at xs (cond (eqb x k) i found) (suc i) (ltb-true (firstOf xs k) (length xs) e)))
-      (λ e. here (ltb-false (firstOf xs k) (length xs) e))
+  last-from [] found i = rw (Places.last-none isKey)
+  last-from (x ∷ xs) found i =
+      last-from xs (cond (eqb x k) i found) (suc i)
+      ∙ cases (ltb (Places.lastOf xs k) (length xs)) (λ e. behind e (ltb-true (Places.lastOf xs k) (length xs) e)) (λ e. here e (ltb-false (Places.lastOf xs k) (length xs) e))
     where
-      behind : {r : ℕ} → KeyAt xs (suc i) r → KeyAt (x ∷ xs) i r
-      behind w =
-          record { offset = suc (w .offset); place = omega (arith, w .place); within = omega (arith, w .within); key = w .key }
+      behind : ltb (Places.lastOf xs k) (length xs) ≡ true → Places.lastOf xs k < length xs → cond (ltb (Places.lastOf xs k) (length xs)) (suc i + Places.lastOf xs k) (cond (eqb x k) i found) ≡ cond (ltb (Places.lastOf (x ∷ xs) k) (length (x ∷ xs))) (i + Places.lastOf (x ∷ xs) k) found
+      behind e h =
+          rw (e, last-later isKey x xs h, lt-ltb (suc (Places.lastOf xs k)) (suc (length xs)) (omega arith)) (omega arith)
 
-      here : length xs ≤ firstOf xs k → KeyAt (x ∷ xs) i (lastFrom (cond (eqb x k) i found) (suc i) xs k)
-      here g =
+      here : ltb (Places.lastOf xs k) (length xs) ≡ false → length xs ≤ Places.lastOf xs k → cond (ltb (Places.lastOf xs k) (length xs)) (suc i + Places.lastOf xs k) (cond (eqb x k) i found) ≡ cond (ltb (Places.lastOf (x ∷ xs) k) (length (x ∷ xs))) (i + Places.lastOf (x ∷ xs) k) found
+      here e h =
           cases (eqb x k)
-          (λ e. rw (e, last-none xs i (suc i) g) (record { offset = 0; place = omega arith; within = omega arith; key = eqb-true x k e }))
-          (λ e. absurd (let f = first-later x xs e in omega (arith, h, f, g)))
+          (λ f. rw (e, f, last-here isKey x xs h f, lt-ltb 0 (suc (length xs)) (omega arith)) (omega arith))
+          (λ f. rw (e, f, last-absent isKey x xs h f, le-ltb (suc (length xs)) (suc (length xs)) (omega arith)))
+
+  pub last-places : (keys : List ℕ) → Places.lastOf keys k ≡ lastOf keys k
+  last-places keys =
+      sym
+      (last-from keys (length keys) 0
+      ∙ cases (ltb (Places.lastOf keys k) (length keys))
+      (λ e. rw e (omega arith))
+      (λ e. rw e (let h = ltb-false (Places.lastOf keys k) (length keys) e in omega (arith, h, Places.last-within isKey keys))))
+
+  -- a key that stands somewhere stands at its first and at its last place
 
   module _ (keys : List ℕ) (h : firstOf keys k < length keys) where
-    last : KeyAt keys 0 (lastOf keys k)
-    last = last-at keys (length keys) 0 h
+    found : Places.firstOf keys k < length keys
+    found = rw (first-places keys) h
+
+    pub first-is : getD keys (firstOf keys k) 0 ≡ k
+    first-is = eqb-true (getD keys (firstOf keys k) 0) k (rw (first-places keys) at (Places.first-holds isKey keys 0 found))
 
     pub last-within : lastOf keys k < length keys
-    last-within = omega (arith, last .place, last .within)
+    last-within = rw (← last-places keys) (Places.first-last isKey keys 0 found)
 
     pub last-is : getD keys (lastOf keys k) 0 ≡ k
-    last-is = let e : lastOf keys k ≡ last .offset = omega (arith, last .place) in rw e (last .key)
+    last-is = eqb-true (getD keys (lastOf keys k) 0) k (rw (last-places keys) at (Places.last-holds isKey keys 0 (Places.first-last isKey keys 0 found)))
+
+  -- it does if it stands at any
+  pub first-before : (keys : List ℕ) (i : ℕ) → i < length keys → getD keys i 0 ≡ k → firstOf keys k ≤ i
+  first-before keys i h e = rw (← first-places keys) (Places.first-found isKey keys i 0 h (eq-eqb (getD keys i 0) k e))
 
 -- merges
 

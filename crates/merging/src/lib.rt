@@ -5,58 +5,14 @@ ghost use Prim.Native.Nat.{_+_, _-_, _*_, _≤_, _<_};
 ghost use lib.Dec.{eqb};
 ghost use lib.ListN.{length, take, drop};
 ghost use Rattle.plan.specs.Keys.{firstOf, lastOf};
-ghost use Rattle.plan.specs.Merging.{rowAt, mergeGroup, mergeLast, mergeLead};
-ghost use Rattle.merging.specs.Groups.{laterOf, AbsorbedAs, MergedGroup};
-
-// The row of series i, of p readings.
-pub fn row(rows: &[u64], p: usize, i: usize) -> &[u64]
-    requires { ⌜ i * p + p ≤ length (now rows) ⌝ }
-    ensures { λ r. ⌜ now r ≡ rowAt p (now (rows .entry)) i ⌝ }
-{
-    let a = i * p;
-    let e = a + p;
-    &rows[a..e]
-}
-
-// The first place of a key, or the number of places.
-pub fn first_of(keys: &[usize], k: usize) -> usize
-    ensures { λ r. ⌜ r ≡ firstOf (now (keys .entry)) k ⌝ }
-{
-    let mut i: usize = 0;
-    while i < keys.len() {
-        if keys[i] == k {
-            return i;
-        }
-        i += 1;
-    }
-    i
-}
-
-// The place i where it has the key, else the one found before.
-fn later(x: usize, k: usize, i: usize, found: usize) -> usize
-    ensures { λ r. ⌜ r ≡ laterOf x k i found ⌝ }
-{
-    if x == k { i } else { found }
-}
-
-// The last place of a key, or the number of places.
-pub fn last_of(keys: &[usize], k: usize) -> usize
-    ensures { λ r. ⌜ r ≡ lastOf (now (keys .entry)) k ⌝ }
-{
-    let mut found = keys.len();
-    let mut i: usize = 0;
-    while i < keys.len() {
-        found = later(keys[i], k, i, found);
-        i += 1;
-    }
-    found
-}
+ghost use Rattle.plan.specs.Merging.{mergeGroup, mergeLast, mergeLead};
+ghost use Rattle.merging.specs.Groups.{AbsorbedAs, MergedGroup};
 
 // Whether a key has one series, which then needs no merging.
 pub fn is_single(keys: &[usize], k: usize) -> bool
     ensures { λ r. ⌜ r ≡ eqb (firstOf (now (keys .entry)) k) (lastOf (now (keys .entry)) k) ⌝ }
 {
-    first_of(keys, k) == last_of(keys, k)
+    timeseries::first_of(keys, k) == timeseries::last_of(keys, k)
 }
 
 // Merges the row of series i, whose group is x, if that is g. Says whether the row is merged as it should be.
@@ -68,7 +24,7 @@ fn absorb(rows: &[u64], x: usize, g: usize, i: usize, allowance: usize, dst: &mu
         return true;
     }
     let p = dst.len();
-    match merge::merge_non_overlapping_timeseries(dst, row(rows, p, i), allowance) {
+    match merge::merge_non_overlapping_timeseries(dst, timeseries::row(rows, p, i), allowance) {
         Merged::Done => true,
         Merged::Overlapping => false,
         Merged::Unequal => false,
@@ -120,8 +76,8 @@ pub fn merge_last(
     ensures { λ r. ⌜ MergedGroup (mergeLast allowance (length (now (dst .entry))) (now (rows .entry)) (now (keys .entry)) k) (length (now (dst .entry))) (now (dst .exit)) r ⌝ }
 {
     let p = dst.len();
-    let last = last_of(keys, k);
-    answers::copy_row(dst, row(rows, p, last));
+    let last = timeseries::last_of(keys, k);
+    answers::copy_row(dst, timeseries::row(rows, p, last));
     merge_between(rows, keys, k, 0, last, allowance, dst)
 }
 
@@ -138,6 +94,6 @@ pub fn merge_lead(
     ensures { λ r. ⌜ MergedGroup (mergeLead allowance (length (now (dst .entry))) (now (rows .entry)) (now (leads .entry)) o) (length (now (dst .entry))) (now (dst .exit)) r ⌝ }
 {
     let p = dst.len();
-    answers::copy_row(dst, row(rows, p, o));
+    answers::copy_row(dst, timeseries::row(rows, p, o));
     merge_between(rows, leads, o, o + 1, leads.len(), allowance, dst)
 }

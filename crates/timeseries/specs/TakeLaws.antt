@@ -5,16 +5,18 @@ use mathlib.Core.Bool.{Bool, true, false, cond, _&&_}
 use mathlib.Core.List.{List, [], _∷_, _++_, map}
 use native.Mathlib.Omega.{arith}
 use lib.Dec.{leb, eqb}
-use lib.ListN.{length, getD, take, drop, length-append}
+use lib.ListN.{length, take, drop, length-append, length-map}
 use lib.Seq.{sets, sets-eq, take-at, drop-at}
+use borrow.Author.Tests.{leb-true, eqb-true}
 use Rattle.model.specs.Limits.{maxSeries, maxPoints}
 use Rattle.model.specs.Labels.{Labels}
 use Rattle.model.specs.Record.{Decoded, decoded, cut, badKey, decode, encode}
-use Rattle.model.specs.Vector.{Series, Shape, Vector, TakenVector, vector, faulty, Records, records, badRecord, withRecord, onDecoded, recordsIn, seriesOf, withReadings, withSizes, twoBytesAt, takeVector}
+use Rattle.model.specs.Vector.{Series, Shape, Vector, labelBytes, TakenVector, vector, faulty, Records, records, badRecord, withRecord, onDecoded, recordsIn, seriesOf, withReadings, withSizes, twoBytesAt, takeVector}
+use Rattle.model.specs.Laws.Booleans.{both-of}
 use Rattle.model.specs.Laws.Record.{decode-is}
-use Rattle.timeseries.specs.Sides.{ends, starts, labelsOfAll}
-use Rattle.timeseries.specs.SideLaws.{starts-count}
-use Rattle.timeseries.specs.Takes.{takenOf, takenNumber, takenPlace, walkedOf, onRest, noted, goodSizes, notedIn}
+use Rattle.timeseries.specs.Sides.{labelsIn, sideOf, ends, starts, labelsOfAll, Positions}
+use Rattle.timeseries.specs.SideLaws.{starts-count, labels-starts, positions-starts}
+use Rattle.timeseries.specs.Takes.{takenOf, takenNumber, takenPlace, walkedOf, onRest, noted, notedIn, TakenInto}
 use Rattle.timeseries.specs.declared.Taken.{Taken}
 use Rattle.timeseries.specs.declared.Taken.the-variants as T
 
@@ -47,14 +49,20 @@ bad-number (suc n) i s k j e = go (bad-number n (suc i)) (decode s) e
     go ih cut e = three (let z : 3 ≡ k = cc in sym z)
     go ih badKey e = four (let z : 4 ≡ k = cc in sym z)
 
--- what records that are read come to: their count, and their positions
+-- records one after another
+unfoldable pub recordBytes : List Labels → List ℕ
+recordBytes [] = []
+recordBytes (l ∷ ls) = encode l ++ recordBytes ls
+
+-- what records that are read come to: their count, their bytes and their positions
 pub record RecordsRead (n size : ℕ) (s : List ℕ) (ls : List Labels) : Type 0 where
   pub count : length ls ≡ n
+  pub bytes : s ≡ recordBytes ls
   pub positions : noted size n s ≡ starts (size - length s) ls
 
 pub records-read : (n i size : ℕ) (s : List ℕ) (ls : List Labels) → length s ≤ size → recordsIn n i s ≡ records ls → RecordsRead n size s ls
-unfolding recordsIn noted ends
-records-read zero i size [] ls h e = let z : ls ≡ [] = cc in rw z (record { count = refl; positions = refl })
+unfolding recordsIn noted ends recordBytes
+records-read zero i size [] ls h e = let z : ls ≡ [] = cc in rw z (record { count = refl; bytes = refl; positions = refl })
 records-read zero i size (x ∷ s) ls h e = not-records 3 i ls e
 records-read (suc n) i size s ls h e = go (records-read n (suc i) size) (decode s) refl e
   where
@@ -69,7 +77,7 @@ records-read (suc n) i size s ls h e = go (records-read n (suc i) size) (decode 
         let rest = ih r ms (omega (arith, h, len)) f in
         let hls : ls ≡ l ∷ ms = cc in
         let here : size - length r ≡ size - length s + length (encode l) = omega (arith, h, len) in
-        rw hls (record { count = ap suc (rest .count); positions = rw d (ap (λ (x : List ℕ). (size - length s) ∷ x) (rest .positions ∙ ap (λ (p : ℕ). starts p ms) here)) })
+        rw hls (record { count = ap suc (rest .count); bytes = b ∙ ap (λ (x : List ℕ). encode l ++ x) (rest .bytes); positions = rw d (ap (λ (x : List ℕ). (size - length s) ∷ x) (rest .positions ∙ ap (λ (p : ℕ). starts p ms) here)) })
 
     go : Later → (d : Decoded) → decode s ≡ d → onDecoded i d (recordsIn n (suc i)) ≡ records ls → RecordsRead (suc n) size s ls
     go ih cut d e = not-records 3 i ls e
@@ -83,6 +91,11 @@ pub series-count : (p : ℕ) (ls : List Labels) (r : List ℕ) → length (serie
 unfolding seriesOf
 series-count p [] r = refl
 series-count p (l ∷ ls) r = ap suc (series-count p ls (drop p r))
+
+series-bytes : (p : ℕ) (ls : List Labels) (r : List ℕ) → labelBytes (seriesOf p ls r) ≡ recordBytes ls
+unfolding seriesOf labelBytes recordBytes
+series-bytes p [] r = refl
+series-bytes p (l ∷ ls) r = ap (λ (x : List ℕ). encode l ++ x) (series-bytes p ls (drop p r))
 
 series-labels : (p : ℕ) (ls : List Labels) (r : List ℕ) → labelsOfAll (seriesOf p ls r) ≡ ls
 unfolding seriesOf
@@ -182,22 +195,43 @@ module _ (side : ℕ) (s x : List ℕ) (t : Taken) (ht : t ≡ takenOf (takeVect
   pub taken-readings : t ≡ T.Readings → takeVector side s x ≡ faulty 5 side 0
   taken-readings e = taken-refused (rw e (omega arith)) ∙ rw e
 
--- a vector that is taken: the positions noted are those of its records
+-- a vector that is taken: w are the positions of its records in the array; x are its readings
+pub record Parts (array x w : List ℕ) (v : Vector) : Type 0 where
+  pub few : length (v .series) ≤ maxSeries
+  pub narrow : v .shape .points ≤ maxPoints
+  pub bytes : array ≡ labelBytes (v .series)
+  pub rows : length x ≡ length (v .series) * v .shape .points
+  pub series : seriesOf (v .shape .points) (labelsOfAll (v .series)) x ≡ v .series
+  pub positions : w ≡ starts 0 (labelsOfAll (v .series))
 
-noted-readings : (side n : ℕ) (shape : Shape) (s x : List ℕ) (v : Vector) (o : Records) → recordsIn n 0 s ≡ o → withReadings side n shape x o ≡ vector v → noted (length s) n s ≡ starts 0 (labelsOfAll (v .series))
-noted-readings side n shape s x v (badRecord k i) f e = absurd (let z : _≡_ {A = ℕ} 0 1 = cc in omega arith)
-noted-readings side n shape s x v (records ls) f e = go (eqb (length x) (n * shape .points)) e
+parts-read : (n : ℕ) (shape : Shape) (s x : List ℕ) (ls : List Labels) → n ≤ maxSeries → shape .points ≤ maxPoints → recordsIn n 0 s ≡ records ls → length x ≡ n * shape .points → Parts s x (noted (length s) n s) (record { shape = shape; series = seriesOf (shape .points) ls x })
+parts-read n shape s x ls hn hp f h =
+    let read = records-read n 0 (length s) s ls (omega arith) f in
+    let count : length (seriesOf (shape .points) ls x) ≡ n = series-count (shape .points) ls x ∙ read .count in
+    let labels = series-labels (shape .points) ls x in
+    let first : length s - length s ≡ 0 = omega arith in
+    record {
+      few = rw count hn;
+      narrow = hp;
+      bytes = read .bytes ∙ sym (series-bytes (shape .points) ls x);
+      rows = rw count h;
+      series = rw labels;
+      positions = read .positions ∙ rw (labels, first);
+    }
+
+readings-parts : (side n : ℕ) (shape : Shape) (s x : List ℕ) (v : Vector) (o : Records) → n ≤ maxSeries → shape .points ≤ maxPoints → recordsIn n 0 s ≡ o → withReadings side n shape x o ≡ vector v → Parts s x (noted (length s) n s) v
+readings-parts side n shape s x v (badRecord k i) hn hp f e = absurd (let z : _≡_ {A = ℕ} 0 1 = cc in omega arith)
+readings-parts side n shape s x v (records ls) hn hp f e = go (eqb (length x) (n * shape .points)) refl e
   where
-    go : (b : Bool) → cond b (vector (record { shape = shape; series = seriesOf (shape .points) ls x })) (faulty 5 side 0) ≡ vector v → noted (length s) n s ≡ starts 0 (labelsOfAll (v .series))
-    go false e = absurd (let z : _≡_ {A = ℕ} 0 1 = cc in omega arith)
-    go true e =
-        let hv : v .series ≡ seriesOf (shape .points) ls x = cc in
-        let zero-start : length s - length s ≡ 0 = omega arith in
-        records-read n 0 (length s) s ls (omega arith) f .positions ∙ rw (hv, series-labels (shape .points) ls x, zero-start)
+    go : (b : Bool) → eqb (length x) (n * shape .points) ≡ b → cond b (vector (record { shape = shape; series = seriesOf (shape .points) ls x })) (faulty 5 side 0) ≡ vector v → Parts s x (noted (length s) n s) v
+    go false h e = absurd (let z : _≡_ {A = ℕ} 0 1 = cc in omega arith)
+    go true h e =
+        let hv : record { shape = shape; series = seriesOf (shape .points) ls x } ≡ v = cc in
+        rw hv at (parts-read n shape s x ls hn hp f (eqb-true (length x) (n * shape .points) h))
 
-pub noted-taken : (side : ℕ) (s x : List ℕ) (v : Vector) → takeVector side s x ≡ vector v → notedIn s ≡ starts 0 (labelsOfAll (v .series))
+pub taken-parts : (side : ℕ) (s x : List ℕ) (v : Vector) → takeVector side s x ≡ vector v → Parts (drop 6 s) x (notedIn s) v
 unfolding takeVector
-noted-taken side s x v e = go (leb 6 (length s)) e
+taken-parts side s x v e = go (leb 6 (length s)) e
   where
     n : ℕ
     n = twoBytesAt s 0
@@ -208,12 +242,15 @@ noted-taken side s x v e = go (leb 6 (length s)) e
     good : Bool
     good = leb n maxSeries && (leb (shape .points) maxPoints && eqb (length (drop 6 s)) (twoBytesAt s 4))
 
-    sized : (b : Bool) → cond b (withReadings side n shape x (recordsIn n 0 (drop 6 s))) (faulty 3 side 0) ≡ vector v → cond b (noted (length (drop 6 s)) n (drop 6 s)) [] ≡ starts 0 (labelsOfAll (v .series))
-    sized true e = noted-readings side n shape (drop 6 s) x v (recordsIn n 0 (drop 6 s)) refl e
-    sized false e = absurd (let z : _≡_ {A = ℕ} 0 1 = cc in omega arith)
+    sized : (b : Bool) → good ≡ b → cond b (withReadings side n shape x (recordsIn n 0 (drop 6 s))) (faulty 3 side 0) ≡ vector v → Parts (drop 6 s) x (cond b (noted (length (drop 6 s)) n (drop 6 s)) []) v
+    sized true g e =
+        let y = both-of (leb n maxSeries) (leb (shape .points) maxPoints && eqb (length (drop 6 s)) (twoBytesAt s 4)) g in
+        let z = both-of (leb (shape .points) maxPoints) (eqb (length (drop 6 s)) (twoBytesAt s 4)) (y .1) in
+        readings-parts side n shape (drop 6 s) x v (recordsIn n 0 (drop 6 s)) (leb-true n maxSeries (y .0)) (leb-true (shape .points) maxPoints (z .0)) refl e
+    sized false g e = absurd (let z : _≡_ {A = ℕ} 0 1 = cc in omega arith)
 
-    go : (b : Bool) → cond b (withSizes side n shape (twoBytesAt s 4) (drop 6 s) x) (faulty 3 side 0) ≡ vector v → cond (b && good) (noted (length (drop 6 s)) n (drop 6 s)) [] ≡ starts 0 (labelsOfAll (v .series))
-    go true e = sized good e
+    go : (b : Bool) → cond b (withSizes side n shape (twoBytesAt s 4) (drop 6 s) x) (faulty 3 side 0) ≡ vector v → Parts (drop 6 s) x (cond (b && good) (noted (length (drop 6 s)) n (drop 6 s)) []) v
+    go true e = sized good refl e
     go false e = absurd (let z : _≡_ {A = ℕ} 0 1 = cc in omega arith)
 
 -- the vector of n series and p points that is taken on a side
@@ -222,7 +259,7 @@ pub record VectorTaken (side : ℕ) (s x : List ℕ) (n p : ℕ) : Type 0 where
   pub taken : takeVector side s x ≡ vector v
   pub count : length (v .series) ≡ n
   pub points : v .shape .points ≡ p
-  pub positions : notedIn s ≡ starts 0 (labelsOfAll (v .series))
+  pub parts : Parts (drop 6 s) x (notedIn s) v
 
 pub taken-vector : (side : ℕ) (s x : List ℕ) (t : Taken) → t ≡ takenOf (takeVector 0 s x) → (n p : ℕ) → t ≡ T.Vector n p → VectorTaken side s x n p
 taken-vector side s x t ht n p e = go (takeVector 0 s x) refl (sym e ∙ ht)
@@ -233,7 +270,7 @@ taken-vector side s x t ht n p e = go (takeVector 0 s x) refl (sym e ∙ ht)
       taken = take-side side 0 s x ∙ ap (onSide side) f;
       count = cc;
       points = cc;
-      positions = noted-taken 0 s x v f;
+      parts = taken-parts 0 s x v f;
     }
     go (faulty k other i) f g = other-case (eqb k 3) (eqb k 4) g
       where
@@ -242,8 +279,8 @@ taken-vector side s x t ht n p e = go (takeVector 0 s x) refl (sym e ∙ ht)
         other-case false true g = absurd (let z : _≡_ {A = ℕ} 0 1 = cc in omega arith)
         other-case false false g = absurd (let z : _≡_ {A = ℕ} 0 1 = cc in omega arith)
 
--- the array of positions afterwards: the front is the vector's, what lies behind stays
-module _ (s before after : List ℕ) (ls : List Labels) (noted-so : notedIn s ≡ starts 0 ls) (stored : after ≡ sets before 0 (notedIn s)) (room : length ls + 1 ≤ length before) where
+-- the positions stored over those before: the front is the vector's, what lies behind stays
+module _ (before w after : List ℕ) (ls : List Labels) (noted-so : w ≡ starts 0 ls) (stored : after ≡ sets before 0 w) (room : length ls + 1 ≤ length before) where
   stored-so : after ≡ starts 0 ls ++ drop (length ls + 1) before
   stored-so =
       let size : length (starts 0 ls) ≡ length ls + 1 = starts-count 0 ls in
@@ -255,3 +292,41 @@ module _ (s before after : List ℕ) (ls : List Labels) (noted-so : notedIn s �
 
   pub positions-behind : drop (length ls + 1) after ≡ drop (length ls + 1) before
   positions-behind = rw stored-so (drop-at (starts 0 ls) (drop (length ls + 1) before) (length ls + 1) (starts-count 0 ls))
+
+-- a side as it is lent after taking: its array, the first n + 1 positions, p and its readings
+pub record SideTaken (side : ℕ) (s x at : List ℕ) (n p : ℕ) : Type 0 where
+  pub v : Vector
+  pub taken : takeVector side s x ≡ vector v
+  pub count : length (v .series) ≡ n
+  pub points : v .shape .points ≡ p
+  pub few : n ≤ maxSeries
+  pub narrow : p ≤ maxPoints
+  pub rows : length x ≡ n * p
+  pub positions : Positions (drop 6 s) (take (n + 1) at)
+  pub entries : length (take (n + 1) at) ≡ n + 1
+  pub labels : labelsIn (drop 6 s) (take (n + 1) at) ≡ labelsOfAll (v .series)
+  pub series : sideOf (drop 6 s) (take (n + 1) at) p x ≡ v .series
+
+module _ (side : ℕ) (s x before after : List ℕ) (room : length before ≡ 513) (t : Taken) (into : TakenInto s x before t after) (n p : ℕ) (e : t ≡ T.Vector n p) where
+  pub side-taken : SideTaken side s x after n p
+  side-taken =
+      let w : VectorTaken side s x n p = taken-vector side s x t (into .answer) n p e in
+      let ls = labelsOfAll (w .v .series) in
+      let many : length ls ≡ n = length-map (w .v .series) (λ y. y .labels) ∙ w .count in
+      let few : n ≤ maxSeries = omega (arith, w .parts .few, w .count) in
+      let front : take (n + 1) after ≡ starts 0 ls = ap (λ (m : ℕ). take (m + 1) after) (sym many) ∙ positions-front before (notedIn s) after ls (w .parts .positions) (into .positions) (omega (arith, many, few, room)) in
+      let array = w .parts .bytes in
+      let found : labelsIn (drop 6 s) (take (n + 1) after) ≡ ls = rw (front, array) (labels-starts (w .v .series)) in
+      record {
+        v = w .v;
+        taken = w .taken;
+        count = w .count;
+        points = w .points;
+        few = few;
+        narrow = omega (arith, w .parts .narrow, w .points);
+        rows = w .parts .rows ∙ ap (λ (m : ℕ). m * w .v .shape .points) (w .count) ∙ ap (λ (m : ℕ). n * m) (w .points);
+        positions = rw (front, array) (positions-starts (w .v .series));
+        entries = rw front (starts-count 0 ls ∙ ap (λ (m : ℕ). m + 1) many);
+        labels = found;
+        series = ap (λ (y : List Labels). seriesOf p y x) found ∙ ap (λ (m : ℕ). seriesOf m ls x) (sym (w .points)) ∙ w .parts .series;
+      }
