@@ -1,13 +1,17 @@
 // The one-side series that a many-side series of a join meets, by their leaders: the earliest with the same edited tags.
+use merging::Merges;
 ghost use mathlib.Core.Path.{_≡_};
-ghost use Prim.Native.Nat.{_+_, _≤_, _<_};
-ghost use lib.ListN.{length};
+ghost use Prim.Native.Nat.{_+_, _*_, _≤_, _<_};
+ghost use lib.ListN.{length, set};
 ghost use Rattle.model.specs.Labels.{WellFormed};
 ghost use Rattle.labels.specs.Names.{namesOf};
 ghost use Rattle.metric_name.specs.Lenient.{labelsOf};
 ghost use Rattle.timeseries.specs.Sides.{Positions};
+ghost use Rattle.plan.specs.Merging.{mergeLead};
+ghost use Rattle.plan.specs.Joins.{leadRows};
 ghost use Rattle.join_leads.specs.Lent.{Lent};
 ghost use Rattle.join_leads.specs.Marks.{Marked, LeadFound, editedHash};
+ghost use Rattle.join_leads.specs.Checks.{TriedAs, ClashOf, CodesFit, Noted};
 
 // The first leader before a place that gives the same edited tags, or the place. The hashes only spare comparisons.
 fn find_lead<'a>(
@@ -73,4 +77,74 @@ pub fn mark_leads<'a>(
             leads[o] = timeseries::DROPPED;
         }
     }
+}
+
+// The merges behind a leader, tried in a row of their own.
+fn try_lead(rows: &[u64], p: usize, leads: &[usize], o: usize, allowance: usize) -> Merges
+    requires inside { ⌜ o < length (now leads) ⌝ }
+    requires held { ⌜ length (now leads) * p ≤ length (now rows) ⌝ }
+    requires narrow { ⌜ p ≤ 1024 ⌝ }
+    ensures { λ r. ⌜ TriedAs (mergeLead allowance p (now (rows .entry)) (now (leads .entry)) o) r ⌝ }
+{
+    if timeseries::last_of(leads, o) == o {
+        return Merges::Done;
+    }
+    let mut work = [0u64; 1024];
+    merging::merge_lead(rows, leads, o, allowance, &mut work[..p])
+}
+
+// What the merges of a many-side series come to.
+pub enum Checked {
+    Done,
+    Failed { kept: usize, failed: usize },
+}
+
+// Every merge of a many-side series, up to the first that fails.
+pub fn check_leads(rows: &[u64], p: usize, leads: &[usize], allowance: usize) -> Checked
+    requires held { ⌜ length (now leads) * p ≤ length (now rows) ⌝ }
+    requires narrow { ⌜ p ≤ 1024 ⌝ }
+    ensures { λ r. ⌜ ClashOf allowance p (now (rows .entry)) (now (leads .entry)) r ⌝ }
+{
+    let mut n: usize = 0;
+    while n < leads.len() {
+        let o = n;
+        n += 1;
+        if leads[o] == o {
+            let m = try_lead(rows, p, leads, o, allowance);
+            match m {
+                Merges::Done => {}
+                Merges::FailedAt(i) => {
+                    return Checked::Failed { kept: o, failed: i };
+                }
+            }
+        }
+    }
+    Checked::Done
+}
+
+// Notes an answer row; rows that the list has no room for are only counted.
+fn note(list: &mut [usize], n: usize, x: usize)
+    ensures { λ _. ⌜ now (list .exit) ≡ set (now (list .entry)) n x ⌝ }
+{
+    if n < list.len() {
+        list[n] = x;
+    }
+}
+
+// Notes the answer rows of the many-side place m behind the n before, and gives their number.
+pub fn list_leads(leads: &[usize], m: usize, n: usize, list: &mut [usize]) -> usize
+    requires { ⌜ CodesFit m n (now leads) ⌝ }
+    ensures { λ r. ⌜ Noted (leadRows m 0 (now (leads .entry))) (now (list .entry)) n (now (list .exit)) r ⌝ }
+{
+    let mut r = n;
+    let mut i: usize = 0;
+    while i < leads.len() {
+        let o = i;
+        i += 1;
+        if leads[o] == o {
+            note(list, r, m * 512 + o);
+            r += 1;
+        }
+    }
+    r
 }
