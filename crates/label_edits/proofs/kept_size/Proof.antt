@@ -11,7 +11,7 @@ name-size-requires : tie.Need-name-size-requires
 name-size-requires c κs = search needs
 
 add-t7 : tie.Need-add-t7
-add-t7 c = search kept-name-fit
+add-t7 c = search (needs, kept-name-fit)
 
 add-t8 : tie.Need-add-t8
 add-t8 c = search kept-bytes-fit

@@ -25,7 +25,7 @@ shared-slice-read-out : tie.Need-shared-slice-read-out Inv-loop μ-loop
 shared-slice-read-out c = search needs
 
 slice-write-out : tie.Need-slice-write-out Inv-loop μ-loop
-slice-write-out c = search put-in
+slice-write-out c = search (needs, put-in)
 
 add-o : tie.Need-add-o Inv-loop μ-loop
 add-o c = search needs

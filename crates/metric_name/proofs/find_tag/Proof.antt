@@ -34,19 +34,19 @@ returns : tie.Need-returns Inv-loop μ-loop
 returns c = search find-end
 
 sub-same-bytes : tie.Need-sub-same-bytes Inv-loop μ-loop
-sub-same-bytes c = search key-order
+sub-same-bytes c = search (needs, key-order)
 
 part-same-bytes-start : tie.Need-part-same-bytes-start Inv-loop μ-loop
-part-same-bytes-start c = search key-order
+part-same-bytes-start c = search (needs, key-order)
 
 part-same-bytes-end : tie.Need-part-same-bytes-end Inv-loop μ-loop
-part-same-bytes-end c = search key-within
+part-same-bytes-end c = search (needs, key-within)
 
 same-bytes-requires : tie.Need-same-bytes-requires Inv-loop μ-loop
 same-bytes-requires c κs = search needs
 
 add-t16 : tie.Need-add-t16 Inv-loop μ-loop
-add-t16 c = search value-room
+add-t16 c = search (needs, value-room)
 
 returns-2 : tie.Need-returns-2 Inv-loop μ-loop
 returns-2 c = search find-hit

@@ -11,13 +11,13 @@ enum-known-start : tie.Need-enum-known-start
 enum-known-start c = search needs
 
 sub-result : tie.Need-sub-result
-sub-result c = search part-order
+sub-result c = search (needs, part-order)
 
 part-result-start : tie.Need-part-result-start
-part-result-start c = search part-order
+part-result-start c = search (needs, part-order)
 
 part-result-end : tie.Need-part-result-end
-part-result-end c = search part-within
+part-result-end c = search (needs, part-within)
 
 enum-told : tie.Need-enum-told
 enum-told c = search needs

@@ -1,18 +1,19 @@
 -- The series that a rule sees, by their key numbers. Assumes nothing.
 use Prim.Native.Nat.{ℕ, zero, suc, _+_}
-use mathlib.Core.Path.{_≡_, refl, sym, ap, _∙_}
-use mathlib.Core.Bool.{Bool, true, false, not, cond, _&&_}
-use mathlib.Core.List.{List, [], _∷_, _++_}
+use mathlib.Core.Path.{_≡_, refl, ap, _∙_}
+use mathlib.Core.Bool.{Bool, true, false, not, _&&_}
+use mathlib.Core.List.{List, [], _∷_}
 use native.Mathlib.Omega.{arith}
 use lib.Dec.{eqb}
-use Rattle.model.specs.Lists.{cases, keep, All}
+use Rattle.model.specs.Lists.{cases, keep}
 use Rattle.model.specs.Laws.Lists.{keep-append, keep-cong, All-each}
 use Rattle.model.specs.Query.{Query, Side, left, right, sameKey}
 use Rattle.model.specs.Vector.{Series}
-use Rattle.semantics.specs.Places.{Place, Placed, numbered, placed}
+use Rattle.semantics.specs.Places.{Placed, numbered, placed}
 use Rattle.semantics.specs.Events.{ofKey}
 use Rattle.semantics.specs.Rules.{onSide, ofSide, hasReadings}
 use Rattle.plan.specs.Keys.{dropped, keyed}
+use Rattle.plan.specs.Laws.Common.{nil-right}
 
 -- a test of series told by their numbers: it holds just where the number is k
 abbrev pub Told : (Series → Bool) → ℕ → List ℕ → List Series → Type 0
@@ -62,17 +63,13 @@ side-none s t h p g (b ∷ bs) =
     (λ e. rw (e, h, side-none s t h p (λ j. g (suc j)) bs))
     (λ e. rw (e, side-none s t h p (λ j. g (suc j)) bs))
 
-append-nil : (xs : List Placed) → xs ++ [] ≡ xs
-append-nil [] = refl
-append-nil (x ∷ xs) = ap (λ l. x ∷ l) (append-nil xs)
-
 -- the left and the right series that pass a test, of a call's
 module _ (ls rs : List Series) (p : Placed → Bool) where
   lefts-of : ofSide left (keep p (placed ls rs)) ≡ keep p (numbered left (λ i. i) ls)
   lefts-of =
       ap (ofSide left) (keep-append p (numbered left (λ i. i) ls) (numbered right (λ i. i) rs))
       ∙ keep-append (λ x. onSide left (x .place .side)) (keep p (numbered left (λ i. i) ls)) (keep p (numbered right (λ i. i) rs))
-      ∙ rw (side-all left p (λ i. i) ls, side-none left right refl p (λ i. i) rs) (append-nil (keep p (numbered left (λ i. i) ls)))
+      ∙ rw (side-all left p (λ i. i) ls, side-none left right refl p (λ i. i) rs) (nil-right (keep p (numbered left (λ i. i) ls)))
 
   rights-of : ofSide right (keep p (placed ls rs)) ≡ keep p (numbered right (λ i. i) rs)
   rights-of =

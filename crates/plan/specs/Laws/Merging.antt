@@ -1,5 +1,5 @@
 -- Series of a key merged, by their rows in one array: into the last of them, and behind a leader. Assumes nothing.
-use Prim.Native.Nat.{ℕ, zero, suc, _+_, _*_, _<_, _≤_}
+use Prim.Native.Nat.{ℕ, zero, suc, _+_, _*_, _<_}
 use mathlib.Core.Path.{_≡_, refl, sym, ap, _∙_}
 use mathlib.Core.Bool.{Bool, true, false, cond}
 use mathlib.Core.Option.{Option, none, some}
@@ -16,10 +16,10 @@ use Rattle.model.specs.Query.{Side}
 use Rattle.model.specs.Vector.{Series, readingsOf}
 use Rattle.semantics.specs.Places.{Place, Placed}
 use Rattle.semantics.specs.Rules as Rules
-use Rattle.semantics.specs.Rules.{Merged, nothing, one, withRow, mergedInto, onMerged, absorbed, earlierOnes, mergedIntoLast}
+use Rattle.semantics.specs.Rules.{Merged, one, withRow, mergedInto, onMerged, absorbed, earlierOnes, mergedIntoLast}
 use Rattle.plan.specs.Keys.{firstOf, lastFrom, lastOf, keyed}
 use Rattle.plan.specs.Merging.{rowAt, RowMerge, row, failedAt, onRow, mergeGroup, mergeLast}
-use Rattle.plan.specs.Pairs.{noLabels}
+use Rattle.plan.specs.Laws.Common.{noSeries, zero-plus}
 
 -- the rows of series, from the place i on, stand in one array
 abbrev pub RowsAt : ℕ → List ℕ → ℕ → List Series → Type 0
@@ -98,9 +98,6 @@ absorbed-relabelled allowance k f h (x ∷ xs) b =
     go (some c) ih = ih c
 
 -- the last of a key
-
-abbrev pub noSeries : Series
-noSeries = record { labels = noLabels; row = [] }
 
 module _ (side : Side) (k : ℕ) where
   no-head : {X : Type 0} (y : Placed) (ys : List Placed) → [] ≡ y ∷ ys → X
@@ -250,6 +247,3 @@ merged-last allowance p rows side k ks bs e r y ys h =
     let lead : rowAt p rows j ≡ b .row = sym (ap (rowAt p rows) (zero-plus j)) ∙ row-at p rows 0 bs r j (omega (arith, l .within, e)) in
     rw (l .last, l .earlier, absorbed-group allowance p rows side k kept 0 (take j ks) (take j bs) b (length-take-level j ks bs e) (RowsAt-take p rows 0 j bs r), at, lead)
     (ap (λ n. mergedAs (record { side = side; number = n }) (b .labels) side (mergeGroup allowance p rows k 0 (take j ks) (b .row))) (zero-plus j))
-  where
-    zero-plus : (n : ℕ) → 0 + n ≡ n
-    zero-plus n = omega arith

@@ -1,44 +1,33 @@
 -- One-to-one by key numbers is what the rule says. Assumes nothing.
 use Prim.Native.Nat.{ℕ, zero, suc, _+_, _<_}
-use mathlib.Core.Path.{_≡_, refl, sym, ap, ap₂, _∙_}
+use mathlib.Core.Path.{_≡_, refl, sym, ap, _∙_}
 use mathlib.Core.Bool.{Bool, true, false, not, cond, _&&_}
 use mathlib.Core.Option.{Option, none, some}
 use mathlib.Core.List.{List, [], _∷_, _++_, map}
 use native.Mathlib.Omega.{arith}
 use lib.Dec.{eqb, ltb}
 use lib.ListN.{length, getD}
-use borrow.Author.Tests.{eqb-true, eqb-false, eq-eqb, ne-eqb, lt-ltb, le-ltb}
-use Rattle.operator.specs.Kinds.{Kind, Arithmetic, Comparison, arithmetic, comparison, kindOf}
-use Rattle.model.specs.Lists.{cases, keep, All, gather}
+use borrow.Author.Tests.{ne-eqb, lt-ltb, le-ltb}
+use Rattle.operator.specs.Kinds.{Arithmetic, Comparison, arithmetic, comparison, kindOf}
+use Rattle.model.specs.Lists.{cases, keep, gather}
 use Rattle.model.specs.Laws.Lists.{gather-append}
 use Rattle.model.specs.Labels.{Labels}
-use Rattle.model.specs.Query.{Query, Join, oneToOne, Side, left, right}
+use Rattle.model.specs.Query.{Query, oneToOne, Side, left, right}
 use Rattle.model.specs.Vector.{Series, Shape, readingsOf}
 use Rattle.semantics.specs.Places.{Place, Placed, Rank, numbered, placed, samePlace}
-use Rattle.semantics.specs.Events.{Duplicate, Event, good, bad, Ranked, mark, Rule, ofKey, producedBy, emission, events, settle}
+use Rattle.semantics.specs.Events.{Duplicate, Event, Ranked, mark, Rule, ofKey, producedBy, emission, events, settle}
 use Rattle.semantics.specs.Rules as Rules
-use Rattle.semantics.specs.Rules.{Merged, nothing, one, plain, ofSide, isFirst, both, mergedIntoLast, dropping, hasReadings}
+use Rattle.semantics.specs.Rules.{plain, ofSide, isFirst, both, mergedIntoLast, dropping, hasReadings}
 use Rattle.semantics.specs.Binop.{paired, allowedOverlaps, matchedRule, ruleOf, look}
 use Rattle.semantics.specs.Call.{concluded, verdict}
 use Rattle.plan.specs.Keys.{dropped, firstOf, lastOf, keyed}
 use Rattle.plan.specs.Merging.{RowMerge, row, failedAt, mergeLast, rowOf, clash}
 use Rattle.plan.specs.Conclude.{orElse, conclude}
-use Rattle.plan.specs.Pairs.{isPair, Sides, pairClash, pairsClash, pairsFrom, noLabels, pairRow, pairSeries}
-use Rattle.plan.specs.Laws.Settling.{firstClash, goodSeries, firstOver, clash-gather, good-gather, clash-produced, good-produced, settled-concludes}
-use Rattle.plan.specs.Laws.Keyed.{takesPart, Sees, EachSees, Numbers, kept-lefts, kept-rights, all-lefts, all-rights}
-use Rattle.plan.specs.Laws.Merging.{RowsAt, rows-of, mergedAs, noSeries, LastOf, last-of, first-of, first-none, merged-last}
-
--- the labels of a side
-abbrev pub labelsOfSide : List Series → List Labels
-labelsOfSide bs = map (λ b. b .labels) bs
-
-getD-labels : (bs : List Series) (j : ℕ) → getD bs j noSeries .labels ≡ getD (labelsOfSide bs) j noLabels
-getD-labels [] j = refl
-getD-labels (b ∷ bs) zero = refl
-getD-labels (b ∷ bs) (suc j) = getD-labels bs j
-
-eqb-sym : (a b : ℕ) → eqb a b ≡ eqb b a
-eqb-sym a b = cases (eqb b a) (λ e. eq-eqb a b (sym (eqb-true b a e)) ∙ sym e) (λ e. ne-eqb a b (λ h. eqb-false b a e (sym h)) ∙ sym e)
+use Rattle.plan.specs.Pairs.{isPair, Sides, pairClash, pairsClash, pairsFrom, pairRow, pairSeries}
+use Rattle.plan.specs.Laws.Common.{noSeries, labelsOfSide, getD-labels, eqb-sym, zero-plus, not-so, is-so, nil-right, or-none, both-none}
+use Rattle.plan.specs.Laws.Settling.{firstClash, goodSeries, firstOver, first-append, clash-gather, good-gather, clash-produced, good-produced, settled-concludes}
+use Rattle.plan.specs.Laws.Keyed.{Sees, EachSees, Numbers, kept-lefts, kept-rights, all-lefts, all-rights}
+use Rattle.plan.specs.Laws.Merging.{RowsAt, mergedAs, last-of, first-of, first-none, merged-last}
 
 -- both merges of a key
 
@@ -89,9 +78,6 @@ module _ (q : Query) (p : ℕ) (ls rs : List Series) (ks ms : List ℕ) (sameLef
     abbrev pairEvents : List Placed → List Placed → List Event
     pairEvents xs zs = cond (isFirst (record { place = here; series = b }) xs) (both (paired q) (mergedIntoLast allowed xs) (mergedIntoLast allowed zs)) []
 
-    zero-plus : (n : ℕ) → 0 + n ≡ n
-    zero-plus n = omega arith
-
     absent-first : keyed left k 0 ks ls ≡ [] → eqb (firstOf ks k) i ≡ false
     absent-first h = ne-eqb (firstOf ks k) i (λ e. let z = first-none left k 0 ks ls sameLeft h in omega (arith, e, z))
 
@@ -127,7 +113,7 @@ module _ (q : Query) (p : ℕ) (ls rs : List Series) (ks ms : List ℕ) (sameLef
         let l = last-of left k 0 ks ls sameLeft y ys hx in
         let at : lastOf ks k ≡ l .offset = l .index (length ks) ∙ (omega arith) in
         let key : getD ks (lastOf ks k) 0 ≡ k = ap (λ n. getD ks n 0) at ∙ l .key in
-        rw (getD-labels ls (lastOf ks k), key)
+        rw (← (getD-labels ls (lastOf ks k)), key)
 
     place-good : (xs zs : List Placed) → keyed left k 0 ks ls ≡ xs → keyed right k 0 ms rs ≡ zs → cond (isPair ks ms k i) (pairClash allowed sides k) none ≡ none
         → goodSeries (mark here (pairEvents xs zs)) ≡ cond (isPair ks ms k i) (pairSeries q sides (labelsOfSide ls) (lastOf ks k) ∷ []) []
@@ -168,10 +154,6 @@ module _ (q : Query) (p : ℕ) (ls rs : List Series) (ks ms : List ℕ) (sameLef
         let first : g zero ≡ i = h zero ∙ (omega arith) in
         rw (first, e .0 .clashes, lefts-clash (suc i) (λ j. g (suc j)) bs xs (λ j. h (suc j) ∙ (omega arith)) (e .1))
 
-    both-none : (o u : Option Duplicate) → orElse o u ≡ none → (o ≡ none) × (u ≡ none)
-    both-none none u e = (refl, e)
-    both-none (some d) u e = absurd (let z : _≡_ {A = ℕ} 0 1 = cc in omega arith)
-
     lefts-good : (i : ℕ) (g : ℕ → ℕ) (bs : List Series) (xs : List ℕ) → ((j : ℕ) → g j ≡ i + j) → EachPair f i bs xs → pairsClash allowed sides i xs ≡ none
         → gather (λ x. goodSeries (f x)) (numbered left g bs) ≡ map (pairSeries q sides (labelsOfSide ls)) (pairsFrom ks ms i xs)
     unfolding pairsClash pairsFrom
@@ -199,25 +181,9 @@ module _ (q : Query) (p : ℕ) (ls rs : List Series) (ks ms : List ℕ) (sameLef
     rights-good g [] = refl
     rights-good g (b ∷ bs) = rw (silent (g zero) b, rights-good (λ j. g (suc j)) bs)
 
-    first-append : (xs ys : List Placed) → firstOver (λ x. firstClash (f x)) (xs ++ ys) ≡ orElse (firstOver (λ x. firstClash (f x)) xs) (firstOver (λ x. firstClash (f x)) ys)
-    first-append [] ys = refl
-    first-append (x ∷ xs) ys = rw (first-append xs ys) (or-assoc (firstClash (f x)) _ _)
-      where
-        or-assoc : (o u v : Option Duplicate) → orElse o (orElse u v) ≡ orElse (orElse o u) v
-        or-assoc none u v = refl
-        or-assoc (some d) u v = refl
-
-    or-none : (o : Option Duplicate) → orElse o none ≡ o
-    or-none none = refl
-    or-none (some d) = refl
-
-    nil-right : (xs : List Series) → xs ++ [] ≡ xs
-    nil-right [] = refl
-    nil-right (x ∷ xs) = ap (λ l. x ∷ l) (nil-right xs)
-
     call-clash : EachPair f 0 ls ks → firstClash (gather f (placed ls rs)) ≡ pairsClash allowed sides 0 ks
     call-clash e =
-        clash-gather f (placed ls rs) ∙ first-append (numbered left (λ i. i) ls) (numbered right (λ i. i) rs)
+        clash-gather f (placed ls rs) ∙ first-append (λ x. firstClash (f x)) (numbered left (λ i. i) ls) (numbered right (λ i. i) rs)
         ∙ rw (lefts-clash f 0 (λ i. i) ls ks (λ j. omega arith) e, rights-clash (λ i. i) rs) (or-none (pairsClash allowed sides 0 ks))
 
     call-good : EachPair f 0 ls ks → pairsClash allowed sides 0 ks ≡ none → goodSeries (gather f (placed ls rs)) ≡ map (pairSeries q sides (labelsOfSide ls)) (pairsFrom ks ms 0 ks)
@@ -252,10 +218,6 @@ module _ (q : Query) (p : ℕ) (ls rs : List Series) (ks ms : List ℕ) (sameLef
         clashes = clash-produced (record { side = left; number = i }) (compares (record { place = record { side = left; number = i }; series = b }) (ofKey q (b .labels) (placed ls rs))) ∙ place-clash b i k within part (ofSide left seen) (ofSide right seen) (sym hx) (sym hz);
         answers = λ n. good-produced (record { side = left; number = i }) (compares (record { place = record { side = left; number = i }; series = b }) (ofKey q (b .labels) (placed ls rs))) ∙ place-good b i k within part (ofSide left seen) (ofSide right seen) (sym hx) (sym hz) n;
       }
-    where
-      not-so : (t : Bool) → true ≡ not t → t ≡ false
-      not-so true e = e
-      not-so false e = refl
 
   each-comparison : (i : ℕ) (bs : List Series) (xs : List ℕ) → i + length xs ≡ length ks → EachSees (Sees q false ls rs ks ms) bs xs → EachPair (emission q compares (placed ls rs)) i bs xs
   each-comparison i [] [] h e = tt
@@ -271,14 +233,6 @@ module _ (q : Query) (p : ℕ) (ls rs : List Series) (ks ms : List ℕ) (sameLef
 
       part-of : (t : Bool) → hasReadings b ≡ t → t ≡ not (eqb k dropped)
       part-of t h = sym h ∙ s .takes
-
-      not-so : (t : Bool) → true ≡ not t → t ≡ false
-      not-so true e = e
-      not-so false e = refl
-
-      is-so : (t : Bool) → false ≡ not t → t ≡ true
-      is-so true e = refl
-      is-so false e = e
 
       go : (t : Bool) → hasReadings b ≡ t → EmitsPair (emission q (dropping compares) (placed ls rs)) b i k
       go true h =

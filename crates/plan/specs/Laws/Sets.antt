@@ -5,32 +5,31 @@ use mathlib.Core.Bool.{Bool, true, false, not, cond, _&&_}
 use mathlib.Core.Option.{Option, none, some}
 use mathlib.Core.List.{List, [], _∷_, _++_, map}
 use native.Mathlib.Omega.{arith}
-use lib.Dec.{eqb, ltb}
-use lib.ListN.{length, getD, take, drop}
+use lib.Dec.{eqb}
+use lib.ListN.{length, getD}
 use lib.Seq.{getD-take, getD-drop}
-use borrow.Author.Tests.{eqb-true, eq-eqb, ne-eqb, lt-ltb, le-ltb}
-use Rattle.operator.specs.Kinds.{Kind, SetRule, whereFound, whereNone, filled, setRule, fallback, kindOf}
-use Rattle.model.specs.Lists.{cases, keep, All, isEmpty, gather}
+use borrow.Author.Tests.{eq-eqb, ne-eqb, lt-ltb, le-ltb}
+use Rattle.operator.specs.Kinds.{SetRule, whereFound, whereNone, filled, setRule, fallback, kindOf}
+use Rattle.model.specs.Lists.{cases, All, isEmpty, gather}
 use Rattle.model.specs.Laws.Lists.{gather-append}
 use Rattle.model.specs.Reading.{missing, noReading}
 use Rattle.model.specs.Row.{onlyMissing}
-use Rattle.model.specs.Labels.{Labels}
 use Rattle.model.specs.Query.{Query, Side, left, right}
 use Rattle.model.specs.Vector.{Series, Shape, readingsOf}
 use Rattle.semantics.specs.Places.{Place, Placed, Rank, numbered, placed}
-use Rattle.semantics.specs.Events.{Duplicate, Event, good, bad, Ranked, mark, Rule, ofKey, producedBy, emission, events, settle}
-use Rattle.semantics.specs.Rules.{plain, ofSide, optional, leftResult, rightResult, setRuleOf}
-use Rattle.semantics.specs.Binop.{Found, firstReading, isFound, someReading, filledFrom, setReading, pointwise, unlessOnlyMissing, staying, met, alone, adds, Seen, scalarSide, look, unmatched, setRuleBy, ruleOf}
+use Rattle.semantics.specs.Events.{Event, Ranked, mark, Rule, ofKey, emission, events, settle}
+use Rattle.semantics.specs.Rules.{ofSide, optional, leftResult, rightResult}
+use Rattle.semantics.specs.Binop.{Found, firstReading, someReading, setReading, pointwise, staying, met, alone, adds, Seen, isBare, scalarSide, look, unmatched, setRuleBy, ruleOf}
 use Rattle.semantics.specs.Call.{concluded, verdict}
 use Rattle.plan.specs.Keys.{firstOf, keyed}
 use Rattle.plan.specs.Merging.{rowAt}
-use Rattle.plan.specs.Conclude.{orElse, conclude}
+use Rattle.plan.specs.Conclude.{conclude}
 use Rattle.plan.specs.Pairs.{noLabels}
-use Rattle.plan.specs.Sets.{SetSides, placesOf, metPlaces, firstAt, setPoint, setRow, needsMatch, dropsEmpty, leftRow, leftAnswers, leftsFrom, rightsFrom, setRows, setSeries}
-use Rattle.plan.specs.Laws.Settling.{firstClash, goodSeries, firstOver, clash-gather, good-gather, clash-produced, good-produced, settled-concludes}
+use Rattle.plan.specs.Sets.{SetSides, placesOf, metPlaces, firstAt, setPoint, setRow, dropsEmpty, leftRow, leftAnswers, leftsFrom, rightsFrom, setRows, setSeries}
+use Rattle.plan.specs.Laws.Settling.{firstClash, goodSeries, firstOver, first-append, clash-gather, good-gather, clash-produced, good-produced, settled-concludes}
 use Rattle.plan.specs.Laws.Keyed.{Sees, EachSees, Numbers, all-lefts, all-rights}
-use Rattle.plan.specs.Laws.Merging.{RowsAt, noSeries, row-at, first-of, first-none}
-use Rattle.plan.specs.Laws.Pairs.{labelsOfSide}
+use Rattle.plan.specs.Laws.Merging.{RowsAt, row-at, first-of, first-none}
+use Rattle.plan.specs.Laws.Common.{noSeries, labelsOfSide, getD-labels, zero-plus, map-append, From, from-all, from-next, from-here}
 
 -- right series by their places in one array
 
@@ -132,31 +131,6 @@ pub data FallsTo : Bool → Option Series → List Series → Type 0 where
   nowhere : (rs : List Series) → FallsTo false none rs
   onlyOne : (r : Series) → FallsTo true (some r) (r ∷ [])
 
-getD-labelled : (bs : List Series) (j : ℕ) → getD (labelsOfSide bs) j noLabels ≡ getD bs j noSeries .labels
-getD-labelled [] j = refl
-getD-labelled (b ∷ bs) zero = refl
-getD-labelled (b ∷ bs) (suc j) = getD-labelled bs j
-
-zero-plus : (n : ℕ) → 0 + n ≡ n
-zero-plus n = omega arith
-
--- a list's elements from a place on, as elements of the whole
-record From {A : Type 0} (d : A) (all rest : List A) (i : ℕ) : Type 0 where
-  each : (j : ℕ) → getD rest j d ≡ getD all (i + j) d
-  size : i + length rest ≡ length all
-
-from-all : {A : Type 0} (d : A) (all : List A) → From d all all 0
-from-all d all = record { each = λ j. ap (λ n. getD all n d) (sym (zero-plus j)); size = omega arith }
-
-from-next : {A : Type 0} (d : A) (all : List A) (x : A) (rest : List A) (i : ℕ) → From d all (x ∷ rest) i → From d all rest (suc i)
-from-next d all x rest i f = record { each = λ j. f .each (suc j) ∙ ap (λ n. getD all n d) (plus-suc i j); size = omega (arith, f .size) }
-  where
-    plus-suc : (i j : ℕ) → i + suc j ≡ suc i + j
-    plus-suc i j = omega arith
-
-from-here : {A : Type 0} (d : A) (all : List A) (x : A) (rest : List A) (i : ℕ) → From d all (x ∷ rest) i → getD all i d ≡ x
-from-here d all x rest i f = let z : i + 0 ≡ i = omega arith in sym (f .each 0 ∙ ap (λ n. getD all n d) z)
-
 width-at : (p : ℕ) (bs : List Series) → All (λ b. length (b .row) ≡ p) bs → (j : ℕ) → j < length bs → length (getD bs j noSeries .row) ≡ p
 width-at p [] w j h = absurd (omega (arith, h))
 width-at p (b ∷ bs) w zero h = w .0
@@ -213,7 +187,7 @@ module _ (q : Query) (rule : SetRule) (p : ℕ) (ls rs : List Series) (ks ms : L
   unfolding setSeries
   left-is b i k h hb hk =
       let stands : rowAt p (readingsOf ls) i ≡ b .row = sym (ap (rowAt p (readingsOf ls)) (zero-plus i)) ∙ row-at p (readingsOf ls) 0 ls rowsLeft i (omega (arith, h, sameLeft)) ∙ ap (λ c. c .row) hb in
-      let labels : getD (labelsOfSide ls) i noLabels ≡ b .labels = getD-labelled ls i ∙ ap (λ c. c .labels) hb in
+      let labels : getD (labelsOfSide ls) i noLabels ≡ b .labels = getD-labels ls i ∙ ap (λ c. c .labels) hb in
       rw (lt-ltb i (length ks) h, hk, stands, labels)
 
   -- a right series, by the left series of its key
@@ -233,7 +207,7 @@ module _ (q : Query) (rule : SetRule) (p : ℕ) (ls rs : List Series) (ks ms : L
   right-is b j h hb =
       let behind : length ks + j - length ks ≡ j = omega arith in
       let stands : rowAt p (readingsOf rs) j ≡ b .row = sym (ap (rowAt p (readingsOf rs)) (zero-plus j)) ∙ row-at p (readingsOf rs) 0 rs rowsRight j (omega (arith, h, sameRight)) ∙ ap (λ c. c .row) hb in
-      let labels : getD (labelsOfSide rs) j noLabels ≡ b .labels = getD-labelled rs j ∙ ap (λ c. c .labels) hb in
+      let labels : getD (labelsOfSide rs) j noLabels ≡ b .labels = getD-labels rs j ∙ ap (λ c. c .labels) hb in
       rw (le-ltb (length ks + j) (length ks) (omega arith), behind, stands, labels)
 
   -- all of them
@@ -319,27 +293,61 @@ module _ (q : Query) (rule : SetRule) (p : ℕ) (ls rs : List Series) (ks ms : L
   none-clash side h g [] = refl
   none-clash side h g (b ∷ bs) = rw (h b (g zero), none-clash side h (λ j. g (suc j)) bs)
 
-  first-append : (xs ys : List Placed) → firstOver (λ x. firstClash (emits x)) xs ≡ none → firstOver (λ x. firstClash (emits x)) ys ≡ none → firstOver (λ x. firstClash (emits x)) (xs ++ ys) ≡ none
-  first-append [] ys hx hy = hy
-  first-append (x ∷ xs) ys hx hy = go (firstClash (emits x)) refl hx (first-append xs ys)
-    where
-      go : (o : Option Duplicate) → firstClash (emits x) ≡ o → orElse o (firstOver (λ x. firstClash (emits x)) xs) ≡ none
-          → (firstOver (λ x. firstClash (emits x)) xs ≡ none → firstOver (λ x. firstClash (emits x)) ys ≡ none → firstOver (λ x. firstClash (emits x)) (xs ++ ys) ≡ none)
-          → orElse o (firstOver (λ x. firstClash (emits x)) (xs ++ ys)) ≡ none
-      go none h e ih = ih e hy
-      go (some d) h e ih = e
-
-  map-append : (f : ℕ → Series) (xs ys : List ℕ) → map f (xs ++ ys) ≡ map f xs ++ map f ys
-  map-append f [] ys = refl
-  map-append f (x ∷ xs) ys = ap (λ l. f x ∷ l) (map-append f xs ys)
-
   pub sets-conclude : (labelRoom room : ℕ) (shape : Shape) → Numbers q false ls rs ks ms
       → concluded labelRoom room shape (settle (events q obeys (placed ls rs))) ≡ conclude labelRoom room shape none (map (setSeries sides) (setRows sides))
   sets-conclude a b shape n =
       let clashless : firstClash (events q obeys (placed ls rs)) ≡ none =
-      clash-gather emits (placed ls rs) ∙ first-append (numbered left (λ i. i) ls) (numbered right (λ i. i) rs) (none-clash left clash-left (λ i. i) ls) (none-clash right clash-right (λ i. i) rs) in
+      clash-gather emits (placed ls rs) ∙ first-append (λ x. firstClash (emits x)) (numbered left (λ i. i) ls) (numbered right (λ i. i) rs)
+      ∙ rw (none-clash left clash-left (λ i. i) ls, none-clash right clash-right (λ i. i) rs) in
       let series : goodSeries (events q obeys (placed ls rs)) ≡ map (setSeries sides) (setRows sides) =
       good-gather emits (placed ls rs) ∙ gather-append (λ x. goodSeries (emits x)) (numbered left (λ i. i) ls) (numbered right (λ i. i) rs)
       ∙ rw (lefts-series 0 (λ i. i) ls ks (λ j. omega arith) (from-all noSeries ls) (from-all 0 ks) (n .ofLefts), rights-series 0 (λ i. i) rs ms (λ j. omega arith) (from-all noSeries rs) (from-all 0 ms) (n .ofRights))
       (sym (map-append (setSeries sides) (leftsFrom sides 0 ks) (cond adding (rightsFrom ks 0 ms) []))) in
       settled-concludes a b shape (events q obeys (placed ls rs)) ∙ rw (clashless, series)
+
+-- the law, for the operators that do not fall back and for those that do
+
+abbrev pub isGiven : Option Series → Bool
+isGiven none = false
+isGiven (some r) = true
+
+scalar-falls : (rs : List Series) → FallsTo (isGiven (scalarSide rs)) (scalarSide rs) rs
+scalar-falls [] = nowhere []
+scalar-falls (r ∷ []) = go (isBare (r .labels))
+  where
+    go : (t : Bool) → FallsTo (isGiven (cond t (some r) none)) (cond t (some r) none) (r ∷ [])
+    go true = onlyOne r
+    go false = nowhere (r ∷ [])
+scalar-falls (r ∷ s ∷ rs) = nowhere (r ∷ s ∷ rs)
+
+module _ (q : Query) (rule : SetRule) (p : ℕ) (ls rs : List Series) (ks ms : List ℕ) (sameLeft : length ks ≡ length ls) (sameRight : length ms ≡ length rs)
+    (widths : All (λ b. length (b .row) ≡ p) ls) (rowsLeft : RowsAt p (readingsOf ls) 0 ls) (rowsRight : RowsAt p (readingsOf rs) 0 rs) (labelRoom room : ℕ) (shape : Shape) where
+  abbrev pub setSidesOf : Bool → Bool → SetSides
+  setSidesOf falls adding =
+      record {
+        points = p;
+        rule = rule;
+        falls = falls;
+        adds = adds rule && adding;
+        leftLabels = labelsOfSide ls;
+        leftKeys = ks;
+        leftRows = readingsOf ls;
+        rightLabels = labelsOfSide rs;
+        rightKeys = ms;
+        rightRows = readingsOf rs;
+      }
+
+  pub set-concludes : kindOf (q .operator) ≡ setRule rule → Numbers q false ls rs ks ms
+      → concluded labelRoom room shape (verdict q ls rs) ≡ conclude labelRoom room shape none (map (setSeries (setSidesOf false true)) (setRows (setSidesOf false true)))
+  unfolding verdict
+  set-concludes hk n =
+      ap (λ o. concluded labelRoom room shape (settle (events q (ruleOf q o (look o ls rs)) (placed ls rs)))) hk
+      ∙ sets-conclude q rule p ls rs ks ms sameLeft sameRight widths rowsLeft rowsRight false (look (setRule rule) ls rs) (nowhere rs) labelRoom room shape n
+
+  pub fallback-concludes : kindOf (q .operator) ≡ fallback rule → Numbers q false ls rs ks ms
+      → concluded labelRoom room shape (verdict q ls rs)
+      ≡ conclude labelRoom room shape none (map (setSeries (setSidesOf (isGiven (scalarSide rs)) (isEmpty ls))) (setRows (setSidesOf (isGiven (scalarSide rs)) (isEmpty ls))))
+  unfolding verdict
+  fallback-concludes hk n =
+      ap (λ o. concluded labelRoom room shape (settle (events q (ruleOf q o (look o ls rs)) (placed ls rs)))) hk
+      ∙ sets-conclude q rule p ls rs ks ms sameLeft sameRight widths rowsLeft rowsRight (isGiven (scalarSide rs)) (look (fallback rule) ls rs) (scalar-falls rs) labelRoom room shape n

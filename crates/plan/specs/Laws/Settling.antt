@@ -2,14 +2,15 @@
 use Prim.Native.Nat.{ℕ}
 use mathlib.Core.Path.{_≡_, refl, sym, ap, _∙_}
 use mathlib.Core.Option.{Option, none, some}
-use mathlib.Core.List.{List, [], _∷_, _++_, map, append-assoc}
+use mathlib.Core.List.{List, [], _∷_, _++_, map}
 use native.Mathlib.Omega.{arith}
 use Rattle.model.specs.Lists.{gather}
 use Rattle.model.specs.Vector.{Series, Shape}
 use Rattle.semantics.specs.Places.{Place, Rank}
-use Rattle.semantics.specs.Events.{Duplicate, Event, good, bad, Ranked, mark, producedBy, Verdict, answer, duplicate, front, settle}
+use Rattle.semantics.specs.Events.{Duplicate, Event, good, bad, Ranked, producedBy, Verdict, answer, duplicate, front, settle}
 use Rattle.semantics.specs.Call.{concluded}
 use Rattle.plan.specs.Conclude.{orElse, conclude}
+use Rattle.plan.specs.Laws.Common.{or-assoc}
 
 abbrev clashBefore : Event → Option Duplicate → Option Duplicate
 clashBefore (bad d) o = some d
@@ -36,11 +37,11 @@ module _ {R : Type 0} where
   goodSeries [] = []
   goodSeries (e ∷ l) = goodBefore (e .what) (goodSeries l)
 
-  clash-append : (l m : List (Ranked R Event)) → firstClash (l ++ m) ≡ orElse (firstClash l) (firstClash m)
+  pub clash-append : (l m : List (Ranked R Event)) → firstClash (l ++ m) ≡ orElse (firstClash l) (firstClash m)
   clash-append [] m = refl
   clash-append (e ∷ l) m = ap (clashBefore (e .what)) (clash-append l m) ∙ clash-before (e .what) (firstClash l) (firstClash m)
 
-  good-append : (l m : List (Ranked R Event)) → goodSeries (l ++ m) ≡ goodSeries l ++ goodSeries m
+  pub good-append : (l m : List (Ranked R Event)) → goodSeries (l ++ m) ≡ goodSeries l ++ goodSeries m
   good-append [] m = refl
   good-append (e ∷ l) m = ap (goodBefore (e .what)) (good-append l m) ∙ good-before (e .what) (goodSeries l) (goodSeries m)
 
@@ -48,6 +49,10 @@ module _ {R : Type 0} where
 abbrev pub firstOver : {A : Type 0} → (A → Option Duplicate) → List A → Option Duplicate
 firstOver f [] = none
 firstOver f (x ∷ xs) = orElse (f x) (firstOver f xs)
+
+pub first-append : {A : Type 0} (f : A → Option Duplicate) (xs ys : List A) → firstOver f (xs ++ ys) ≡ orElse (firstOver f xs) (firstOver f ys)
+first-append f [] ys = refl
+first-append f (x ∷ xs) ys = rw (first-append f xs ys) (or-assoc (f x) (firstOver f xs) (firstOver f ys))
 
 pub clash-gather : {R A : Type 0} (g : A → List (Ranked R Event)) (xs : List A) → firstClash (gather g xs) ≡ firstOver (λ x. firstClash (g x)) xs
 clash-gather g [] = refl

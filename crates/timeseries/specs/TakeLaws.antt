@@ -1,0 +1,332 @@
+-- Laws of taking: the side is in the fields alone, a fault's number, and the positions of a vector that is taken. Assumes nothing.
+use Prim.Native.Nat.{ℕ, zero, suc, _+_, _-_, _*_, _≤_, _<_}
+use mathlib.Core.Path.{_≡_, refl, sym, ap, _∙_}
+use mathlib.Core.Bool.{Bool, true, false, cond, _&&_}
+use mathlib.Core.List.{List, [], _∷_, _++_, map}
+use native.Mathlib.Omega.{arith}
+use lib.Dec.{leb, eqb}
+use lib.ListN.{length, take, drop, length-append, length-map}
+use lib.Seq.{sets, sets-eq, take-at, drop-at}
+use borrow.Author.Tests.{leb-true, eqb-true}
+use Rattle.model.specs.Limits.{maxSeries, maxPoints}
+use Rattle.model.specs.Labels.{Labels}
+use Rattle.model.specs.Record.{Decoded, decoded, cut, badKey, decode, encode}
+use Rattle.model.specs.Vector.{Series, Shape, Vector, labelBytes, TakenVector, vector, faulty, Records, records, badRecord, withRecord, onDecoded, recordsIn, seriesOf, withReadings, withSizes, twoBytesAt, takeVector}
+use Rattle.model.specs.Laws.Booleans.{both-of}
+use Rattle.model.specs.Laws.Record.{decode-is}
+use Rattle.timeseries.specs.Sides.{labelsIn, sideOf, ends, starts, labelsOfAll, Positions}
+use Rattle.timeseries.specs.SideLaws.{starts-count, labels-starts, positions-starts}
+use Rattle.timeseries.specs.Takes.{takenOf, takenNumber, takenPlace, walkedOf, onRest, noted, notedIn, TakenInto}
+use Rattle.timeseries.specs.declared.Taken.{Taken}
+use Rattle.timeseries.specs.declared.Taken.the-variants as T
+
+not-bad : {X : Type 0} (ls : List Labels) (k i : ℕ) → records ls ≡ badRecord k i → X
+not-bad ls k i e = absurd (let z : _≡_ {A = ℕ} 0 1 = cc in omega arith)
+
+not-records : {X : Type 0} (k i : ℕ) (ls : List Labels) → badRecord k i ≡ records ls → X
+not-records k i ls e = absurd (let z : _≡_ {A = ℕ} 0 1 = cc in omega arith)
+
+-- records give 3 or 4
+pub data RecordFault (k : ℕ) : Type 0 where
+  three : k ≡ 3 → RecordFault k
+  four : k ≡ 4 → RecordFault k
+
+number-is : (a b k i j : ℕ) → badRecord a i ≡ badRecord b j → a ≡ b
+number-is a b k i j e = cc
+
+pub bad-number : (n i : ℕ) (s : List ℕ) (k j : ℕ) → recordsIn n i s ≡ badRecord k j → RecordFault k
+unfolding recordsIn
+bad-number zero i [] k j e = not-bad [] k j e
+bad-number zero i (x ∷ s) k j e = three (let z : 3 ≡ k = cc in sym z)
+bad-number (suc n) i s k j e = go (bad-number n (suc i)) (decode s) e
+  where
+    last : (l : Labels) (w : Records) → (w ≡ badRecord k j → RecordFault k) → withRecord l w ≡ badRecord k j → RecordFault k
+    last l (records ls) ih e = not-bad (l ∷ ls) k j e
+    last l (badRecord m o) ih e = ih e
+
+    go : ((s : List ℕ) (k j : ℕ) → recordsIn n (suc i) s ≡ badRecord k j → RecordFault k) → (d : Decoded) → onDecoded i d (recordsIn n (suc i)) ≡ badRecord k j → RecordFault k
+    go ih (decoded l rest) e = last l (recordsIn n (suc i) rest) (ih rest k j) e
+    go ih cut e = three (let z : 3 ≡ k = cc in sym z)
+    go ih badKey e = four (let z : 4 ≡ k = cc in sym z)
+
+-- records one after another
+unfoldable pub recordBytes : List Labels → List ℕ
+recordBytes [] = []
+recordBytes (l ∷ ls) = encode l ++ recordBytes ls
+
+-- what records that are read come to: their count, their bytes and their positions
+pub record RecordsRead (n size : ℕ) (s : List ℕ) (ls : List Labels) : Type 0 where
+  pub count : length ls ≡ n
+  pub bytes : s ≡ recordBytes ls
+  pub positions : noted size n s ≡ starts (size - length s) ls
+
+pub records-read : (n i size : ℕ) (s : List ℕ) (ls : List Labels) → length s ≤ size → recordsIn n i s ≡ records ls → RecordsRead n size s ls
+unfolding recordsIn noted ends recordBytes
+records-read zero i size [] ls h e = let z : ls ≡ [] = cc in rw z (record { count = refl; bytes = refl; positions = refl })
+records-read zero i size (x ∷ s) ls h e = not-records 3 i ls e
+records-read (suc n) i size s ls h e = go (records-read n (suc i) size) (decode s) refl e
+  where
+    Later : Type 0
+    Later = (s : List ℕ) (ls : List Labels) → length s ≤ size → recordsIn n (suc i) s ≡ records ls → RecordsRead n size s ls
+
+    last : Later → (l : Labels) (r : List ℕ) → decode s ≡ decoded l r → (w : Records) → recordsIn n (suc i) r ≡ w → withRecord l w ≡ records ls → RecordsRead (suc n) size s ls
+    last ih l r d (badRecord k j) f e = not-records k j ls e
+    last ih l r d (records ms) f e =
+        let b = decode-is s l r d .bytes in
+        let len : length s ≡ length (encode l) + length r = ap length b ∙ length-append (encode l) r in
+        let rest = ih r ms (omega (arith, h, len)) f in
+        let hls : ls ≡ l ∷ ms = cc in
+        let here : size - length r ≡ size - length s + length (encode l) = omega (arith, h, len) in
+        rw hls (record { count = ap suc (rest .count); bytes = b ∙ ap (λ (x : List ℕ). encode l ++ x) (rest .bytes); positions = rw d (ap (λ (x : List ℕ). (size - length s) ∷ x) (rest .positions ∙ ap (λ (p : ℕ). starts p ms) here)) })
+
+    go : Later → (d : Decoded) → decode s ≡ d → onDecoded i d (recordsIn n (suc i)) ≡ records ls → RecordsRead (suc n) size s ls
+    go ih cut d e = not-records 3 i ls e
+    go ih badKey d e = not-records 4 i ls e
+    go ih (decoded l r) d e = last ih l r d (recordsIn n (suc i) r) refl e
+
+pub records-count : (n i : ℕ) (s : List ℕ) (ls : List Labels) → recordsIn n i s ≡ records ls → length ls ≡ n
+records-count n i s ls e = records-read n i (length s) s ls (omega arith) e .count
+
+pub series-count : (p : ℕ) (ls : List Labels) (r : List ℕ) → length (seriesOf p ls r) ≡ length ls
+unfolding seriesOf
+series-count p [] r = refl
+series-count p (l ∷ ls) r = ap suc (series-count p ls (drop p r))
+
+series-bytes : (p : ℕ) (ls : List Labels) (r : List ℕ) → labelBytes (seriesOf p ls r) ≡ recordBytes ls
+unfolding seriesOf labelBytes recordBytes
+series-bytes p [] r = refl
+series-bytes p (l ∷ ls) r = ap (λ (x : List ℕ). encode l ++ x) (series-bytes p ls (drop p r))
+
+series-labels : (p : ℕ) (ls : List Labels) (r : List ℕ) → labelsOfAll (seriesOf p ls r) ≡ ls
+unfolding seriesOf
+series-labels p [] r = refl
+series-labels p (l ∷ ls) r = ap (λ (x : List Labels). l ∷ x) (series-labels p ls (drop p r))
+
+-- taking on another side differs in that field alone
+
+abbrev pub onSide : ℕ → TakenVector → TakenVector
+onSide side (vector v) = vector v
+onSide side (faulty k other i) = faulty k side i
+
+cond-side : (b : Bool) (side : ℕ) (a c : TakenVector) → onSide side (cond b a c) ≡ cond b (onSide side a) (onSide side c)
+cond-side true side a c = refl
+cond-side false side a c = refl
+
+readings-side : (side other n : ℕ) (shape : Shape) (x : List ℕ) (o : Records) → onSide side (withReadings other n shape x o) ≡ withReadings side n shape x o
+readings-side side other n shape x (records ls) = cond-side (eqb (length x) (n * shape .points)) side _ _
+readings-side side other n shape x (badRecord k i) = refl
+
+pub take-side : (side other : ℕ) (s x : List ℕ) → takeVector side s x ≡ onSide side (takeVector other s x)
+unfolding takeVector
+take-side side other s x =
+    let n = twoBytesAt s 0 in
+    let shape : Shape = record { points = twoBytesAt s 2 } in
+    let good = leb n maxSeries && (leb (shape .points) maxPoints && eqb (length (drop 6 s)) (twoBytesAt s 4)) in
+    let sized = cond-side good side (withReadings other n shape x (recordsIn n 0 (drop 6 s))) (faulty 3 other 0) ∙ ap (λ (t : TakenVector). cond good t (faulty 3 side 0)) (readings-side side other n shape x (recordsIn n 0 (drop 6 s))) in
+    sym (cond-side (leb 6 (length s)) side (withSizes other n shape (twoBytesAt s 4) (drop 6 s) x) (faulty 3 other 0) ∙ ap (λ (t : TakenVector). cond (leb 6 (length s)) t (faulty 3 side 0)) sized)
+
+-- a fault has 01's numbers; number 5 has the place 0
+
+pub data Fault (k i : ℕ) : Type 0 where
+  cutFault : k ≡ 3 → Fault k i
+  keyFault : k ≡ 4 → Fault k i
+  readingsFault : k ≡ 5 → i ≡ 0 → Fault k i
+
+fault-three : (side other k i j : ℕ) → faulty 3 side j ≡ faulty k other i → Fault k i
+fault-three side other k i j e = cutFault (let z : 3 ≡ k = cc in sym z)
+
+not-faulty : {X : Type 0} (v : Vector) (k side i : ℕ) → vector v ≡ faulty k side i → X
+not-faulty v k side i e = absurd (let z : _≡_ {A = ℕ} 0 1 = cc in omega arith)
+
+readings-fault : (side other n : ℕ) (shape : Shape) (s x : List ℕ) (k i : ℕ) (o : Records) → recordsIn n 0 s ≡ o → withReadings side n shape x o ≡ faulty k other i → Fault k i
+readings-fault side other n shape s x k i (records ls) f e = go (eqb (length x) (n * shape .points)) e
+  where
+    go : (b : Bool) → cond b (vector (record { shape = shape; series = seriesOf (shape .points) ls x })) (faulty 5 side 0) ≡ faulty k other i → Fault k i
+    go true e = not-faulty _ k other i e
+    go false e = readingsFault (let z : 5 ≡ k = cc in sym z) (let z : 0 ≡ i = cc in sym z)
+readings-fault side other n shape s x k i (badRecord m j) f e = go (bad-number n 0 s m j f)
+  where
+    same : m ≡ k
+    same = cc
+
+    go : RecordFault m → Fault k i
+    go (three h) = cutFault (sym same ∙ h)
+    go (four h) = keyFault (sym same ∙ h)
+
+pub take-fault : (side other : ℕ) (s x : List ℕ) (k i : ℕ) → takeVector side s x ≡ faulty k other i → Fault k i
+unfolding takeVector
+take-fault side other s x k i e = go (leb 6 (length s)) e
+  where
+    n : ℕ
+    n = twoBytesAt s 0
+
+    shape : Shape
+    shape = record { points = twoBytesAt s 2 }
+
+    sized : (b : Bool) → cond b (withReadings side n shape x (recordsIn n 0 (drop 6 s))) (faulty 3 side 0) ≡ faulty k other i → Fault k i
+    sized true e = readings-fault side other n shape (drop 6 s) x k i (recordsIn n 0 (drop 6 s)) refl e
+    sized false e = fault-three side other k i 0 e
+
+    go : (b : Bool) → cond b (withSizes side n shape (twoBytesAt s 4) (drop 6 s) x) (faulty 3 side 0) ≡ faulty k other i → Fault k i
+    go true e = sized (leb n maxSeries && (leb (shape .points) maxPoints && eqb (length (drop 6 s)) (twoBytesAt s 4))) e
+    go false e = fault-three side other k i 0 e
+
+-- the code's answer t, read back: what taking on a side gives
+
+module _ (side : ℕ) (s x : List ℕ) (t : Taken) (ht : t ≡ takenOf (takeVector 0 s x)) where
+  refused : (o : TakenVector) → takeVector 0 s x ≡ o → 0 < takenNumber t → t ≡ takenOf o → takeVector side s x ≡ faulty (takenNumber t) side (takenPlace t)
+  refused (vector v) e h f = absurd (let z : takenNumber t ≡ 0 = ap takenNumber f in omega (arith, h, z))
+  refused (faulty k other i) e h f = take-side side 0 s x ∙ ap (onSide side) e ∙ go (take-fault 0 other s x k i e)
+    where
+      go : Fault k i → faulty k side i ≡ faulty (takenNumber t) side (takenPlace t)
+      go (cutFault z) = let y : t ≡ T.Cut i = f ∙ rw z in rw (y, z)
+      go (keyFault z) = let y : t ≡ T.BadKey i = f ∙ rw z in rw (y, z)
+      go (readingsFault z w) = let y : t ≡ T.Readings = f ∙ rw z in rw (y, z, w)
+
+  pub taken-refused : 0 < takenNumber t → takeVector side s x ≡ faulty (takenNumber t) side (takenPlace t)
+  taken-refused h = refused (takeVector 0 s x) refl h ht
+
+  pub taken-cut : (i : ℕ) → t ≡ T.Cut i → takeVector side s x ≡ faulty 3 side i
+  taken-cut i e = taken-refused (rw e (omega arith)) ∙ rw e
+
+  pub taken-bad-key : (i : ℕ) → t ≡ T.BadKey i → takeVector side s x ≡ faulty 4 side i
+  taken-bad-key i e = taken-refused (rw e (omega arith)) ∙ rw e
+
+  pub taken-readings : t ≡ T.Readings → takeVector side s x ≡ faulty 5 side 0
+  taken-readings e = taken-refused (rw e (omega arith)) ∙ rw e
+
+-- a vector that is taken: w are the positions of its records in the array; x are its readings
+pub record Parts (array x w : List ℕ) (v : Vector) : Type 0 where
+  pub few : length (v .series) ≤ maxSeries
+  pub narrow : v .shape .points ≤ maxPoints
+  pub bytes : array ≡ labelBytes (v .series)
+  pub rows : length x ≡ length (v .series) * v .shape .points
+  pub series : seriesOf (v .shape .points) (labelsOfAll (v .series)) x ≡ v .series
+  pub positions : w ≡ starts 0 (labelsOfAll (v .series))
+
+parts-read : (n : ℕ) (shape : Shape) (s x : List ℕ) (ls : List Labels) → n ≤ maxSeries → shape .points ≤ maxPoints → recordsIn n 0 s ≡ records ls → length x ≡ n * shape .points → Parts s x (noted (length s) n s) (record { shape = shape; series = seriesOf (shape .points) ls x })
+parts-read n shape s x ls hn hp f h =
+    let read = records-read n 0 (length s) s ls (omega arith) f in
+    let count : length (seriesOf (shape .points) ls x) ≡ n = series-count (shape .points) ls x ∙ read .count in
+    let labels = series-labels (shape .points) ls x in
+    let first : length s - length s ≡ 0 = omega arith in
+    record {
+      few = rw count hn;
+      narrow = hp;
+      bytes = read .bytes ∙ sym (series-bytes (shape .points) ls x);
+      rows = rw count h;
+      series = rw labels;
+      positions = read .positions ∙ rw (labels, first);
+    }
+
+readings-parts : (side n : ℕ) (shape : Shape) (s x : List ℕ) (v : Vector) (o : Records) → n ≤ maxSeries → shape .points ≤ maxPoints → recordsIn n 0 s ≡ o → withReadings side n shape x o ≡ vector v → Parts s x (noted (length s) n s) v
+readings-parts side n shape s x v (badRecord k i) hn hp f e = absurd (let z : _≡_ {A = ℕ} 0 1 = cc in omega arith)
+readings-parts side n shape s x v (records ls) hn hp f e = go (eqb (length x) (n * shape .points)) refl e
+  where
+    go : (b : Bool) → eqb (length x) (n * shape .points) ≡ b → cond b (vector (record { shape = shape; series = seriesOf (shape .points) ls x })) (faulty 5 side 0) ≡ vector v → Parts s x (noted (length s) n s) v
+    go false h e = absurd (let z : _≡_ {A = ℕ} 0 1 = cc in omega arith)
+    go true h e =
+        let hv : record { shape = shape; series = seriesOf (shape .points) ls x } ≡ v = cc in
+        rw hv at (parts-read n shape s x ls hn hp f (eqb-true (length x) (n * shape .points) h))
+
+pub taken-parts : (side : ℕ) (s x : List ℕ) (v : Vector) → takeVector side s x ≡ vector v → Parts (drop 6 s) x (notedIn s) v
+unfolding takeVector
+taken-parts side s x v e = go (leb 6 (length s)) e
+  where
+    n : ℕ
+    n = twoBytesAt s 0
+
+    shape : Shape
+    shape = record { points = twoBytesAt s 2 }
+
+    good : Bool
+    good = leb n maxSeries && (leb (shape .points) maxPoints && eqb (length (drop 6 s)) (twoBytesAt s 4))
+
+    sized : (b : Bool) → good ≡ b → cond b (withReadings side n shape x (recordsIn n 0 (drop 6 s))) (faulty 3 side 0) ≡ vector v → Parts (drop 6 s) x (cond b (noted (length (drop 6 s)) n (drop 6 s)) []) v
+    sized true g e =
+        let y = both-of (leb n maxSeries) (leb (shape .points) maxPoints && eqb (length (drop 6 s)) (twoBytesAt s 4)) g in
+        let z = both-of (leb (shape .points) maxPoints) (eqb (length (drop 6 s)) (twoBytesAt s 4)) (y .1) in
+        readings-parts side n shape (drop 6 s) x v (recordsIn n 0 (drop 6 s)) (leb-true n maxSeries (y .0)) (leb-true (shape .points) maxPoints (z .0)) refl e
+    sized false g e = absurd (let z : _≡_ {A = ℕ} 0 1 = cc in omega arith)
+
+    go : (b : Bool) → cond b (withSizes side n shape (twoBytesAt s 4) (drop 6 s) x) (faulty 3 side 0) ≡ vector v → Parts (drop 6 s) x (cond (b && good) (noted (length (drop 6 s)) n (drop 6 s)) []) v
+    go true e = sized good refl e
+    go false e = absurd (let z : _≡_ {A = ℕ} 0 1 = cc in omega arith)
+
+-- the vector of n series and p points that is taken on a side
+pub record VectorTaken (side : ℕ) (s x : List ℕ) (n p : ℕ) : Type 0 where
+  pub v : Vector
+  pub taken : takeVector side s x ≡ vector v
+  pub count : length (v .series) ≡ n
+  pub points : v .shape .points ≡ p
+  pub parts : Parts (drop 6 s) x (notedIn s) v
+
+pub taken-vector : (side : ℕ) (s x : List ℕ) (t : Taken) → t ≡ takenOf (takeVector 0 s x) → (n p : ℕ) → t ≡ T.Vector n p → VectorTaken side s x n p
+taken-vector side s x t ht n p e = go (takeVector 0 s x) refl (sym e ∙ ht)
+  where
+    go : (o : TakenVector) → takeVector 0 s x ≡ o → T.Vector n p ≡ takenOf o → VectorTaken side s x n p
+    go (vector v) f g = record {
+      v = v;
+      taken = take-side side 0 s x ∙ ap (onSide side) f;
+      count = cc;
+      points = cc;
+      parts = taken-parts 0 s x v f;
+    }
+    go (faulty k other i) f g = other-case (eqb k 3) (eqb k 4) g
+      where
+        other-case : (b c : Bool) → T.Vector n p ≡ cond b (T.Cut i) (cond c (T.BadKey i) T.Readings) → VectorTaken side s x n p
+        other-case true c g = absurd (let z : _≡_ {A = ℕ} 0 1 = cc in omega arith)
+        other-case false true g = absurd (let z : _≡_ {A = ℕ} 0 1 = cc in omega arith)
+        other-case false false g = absurd (let z : _≡_ {A = ℕ} 0 1 = cc in omega arith)
+
+-- the positions stored over those before: the front is the vector's, what lies behind stays
+module _ (before w after : List ℕ) (ls : List Labels) (noted-so : w ≡ starts 0 ls) (stored : after ≡ sets before 0 w) (room : length ls + 1 ≤ length before) where
+  stored-so : after ≡ starts 0 ls ++ drop (length ls + 1) before
+  stored-so =
+      let size : length (starts 0 ls) ≡ length ls + 1 = starts-count 0 ls in
+      let count : 0 + length (starts 0 ls) ≡ length ls + 1 = omega arith in
+      stored ∙ ap (sets before 0) noted-so ∙ sets-eq (starts 0 ls) before 0 (omega arith) ∙ ap (λ (m : ℕ). starts 0 ls ++ drop m before) count
+
+  pub positions-front : take (length ls + 1) after ≡ starts 0 ls
+  positions-front = rw stored-so (take-at (starts 0 ls) (drop (length ls + 1) before) (length ls + 1) (starts-count 0 ls))
+
+  pub positions-behind : drop (length ls + 1) after ≡ drop (length ls + 1) before
+  positions-behind = rw stored-so (drop-at (starts 0 ls) (drop (length ls + 1) before) (length ls + 1) (starts-count 0 ls))
+
+-- a side as it is lent after taking: its array, the first n + 1 positions, p and its readings
+pub record SideTaken (side : ℕ) (s x at : List ℕ) (n p : ℕ) : Type 0 where
+  pub v : Vector
+  pub taken : takeVector side s x ≡ vector v
+  pub count : length (v .series) ≡ n
+  pub points : v .shape .points ≡ p
+  pub few : n ≤ maxSeries
+  pub narrow : p ≤ maxPoints
+  pub rows : length x ≡ n * p
+  pub positions : Positions (drop 6 s) (take (n + 1) at)
+  pub entries : length (take (n + 1) at) ≡ n + 1
+  pub labels : labelsIn (drop 6 s) (take (n + 1) at) ≡ labelsOfAll (v .series)
+  pub series : sideOf (drop 6 s) (take (n + 1) at) p x ≡ v .series
+
+module _ (side : ℕ) (s x before after : List ℕ) (room : length before ≡ 513) (t : Taken) (into : TakenInto s x before t after) (n p : ℕ) (e : t ≡ T.Vector n p) where
+  pub side-taken : SideTaken side s x after n p
+  side-taken =
+      let w : VectorTaken side s x n p = taken-vector side s x t (into .answer) n p e in
+      let ls = labelsOfAll (w .v .series) in
+      let many : length ls ≡ n = length-map (w .v .series) (λ y. y .labels) ∙ w .count in
+      let few : n ≤ maxSeries = omega (arith, w .parts .few, w .count) in
+      let front : take (n + 1) after ≡ starts 0 ls = ap (λ (m : ℕ). take (m + 1) after) (sym many) ∙ positions-front before (notedIn s) after ls (w .parts .positions) (into .positions) (omega (arith, many, few, room)) in
+      let array = w .parts .bytes in
+      let found : labelsIn (drop 6 s) (take (n + 1) after) ≡ ls = rw (front, array) (labels-starts (w .v .series)) in
+      record {
+        v = w .v;
+        taken = w .taken;
+        count = w .count;
+        points = w .points;
+        few = few;
+        narrow = omega (arith, w .parts .narrow, w .points);
+        rows = w .parts .rows ∙ ap (λ (m : ℕ). m * w .v .shape .points) (w .count) ∙ ap (λ (m : ℕ). n * m) (w .points);
+        positions = rw (front, array) (positions-starts (w .v .series));
+        entries = rw front (starts-count 0 ls ∙ ap (λ (m : ℕ). m + 1) many);
+        labels = found;
+        series = ap (λ (y : List Labels). seriesOf p y x) found ∙ ap (λ (m : ℕ). seriesOf m ls x) (sym (w .points)) ∙ w .parts .series;
+      }
