@@ -1,7 +1,7 @@
 // Takes the queries of standard input, each after its length (2 bytes), and prints what they ask.
 ghost use Prim.Native.Nat.{_≤_};
 ghost use lib.ListN.{length};
-use metric_name::Matching;
+use labels::Matching;
 use query::Join;
 use query::Query;
 use query::Request;
