@@ -6,7 +6,7 @@ use mathlib.Core.List.{List, [], _∷_, _++_, map}
 use native.Mathlib.Omega.{arith}
 use lib.Dec.{leb, eqb}
 use lib.ListN.{length, take, drop, length-append, length-map}
-use lib.Seq.{sets, sets-eq, take-at, drop-at}
+use lib.Seq.{sets, length-sets, sets-eq, take-at, drop-at}
 use borrow.Author.Tests.{leb-true, eqb-true}
 use Rattle.model.specs.Limits.{maxSeries, maxPoints}
 use Rattle.model.specs.Labels.{Labels}
@@ -292,6 +292,10 @@ module _ (before w after : List ℕ) (ls : List Labels) (noted-so : w ≡ starts
 
   pub positions-behind : drop (length ls + 1) after ≡ drop (length ls + 1) before
   positions-behind = rw stored-so (drop-at (starts 0 ls) (drop (length ls + 1) before) (length ls + 1) (starts-count 0 ls))
+
+-- the array of positions keeps its length
+pub taken-long : (s x before after : List ℕ) (t : Taken) → TakenInto s x before t after → length after ≡ length before
+taken-long s x before after t into = ap length (into .positions) ∙ length-sets before 0 (notedIn s)
 
 -- a side as it is lent after taking: its array, the first n + 1 positions, p and its readings
 pub record SideTaken (side : ℕ) (s x at : List ℕ) (n p : ℕ) : Type 0 where
