@@ -3,6 +3,7 @@ use Rattle.model.specs.Query as Q
 use Rattle.labels.specs.declared.Matching.{Matching}
 use Rattle.labels.specs.declared.Matching.the-variants.{All, On, Ignoring}
 
+-- 01: matching (none, on, ignoring)
 abbrev pub matchingOf : Matching → Q.Matching
 matchingOf All = Q.all
 matchingOf On = Q.on

@@ -62,7 +62,7 @@ same-last x y =
     split : sameBytes (encodeField x) (encodeField y) ≡ (eqb (length x) (length y) && sameBytes x y)
     split = unfold sameBytes in refl
 
-same-tag : (t u : Tag) (ts us : List Tag) → sameTags (t ∷ ts) (u ∷ us) ≡ (sameBytes (encodeTag t) (encodeTag u) && sameTags ts us)
+pub same-tag : (t u : Tag) (ts us : List Tag) → sameTags (t ∷ ts) (u ∷ us) ≡ (sameBytes (encodeTag t) (encodeTag u) && sameTags ts us)
 unfolding sameTags
 same-tag t u ts us =
     rw (same-field (t .key) (u .key) (encodeField (t .value)) (encodeField (u .value)), same-last (t .value) (u .value))

@@ -114,7 +114,7 @@ series-good p (l ∷ ls) r a b e =
       series-good p ls (drop p r) (a .1) (All-back _ (take p r) (drop p r) split) (length-drop p r ∙ (omega (arith, e))),
     )
 
-series-length : (p : ℕ) (ls : List Labels) (r : List ℕ) → length (seriesOf p ls r) ≡ length ls
+pub series-length : (p : ℕ) (ls : List Labels) (r : List ℕ) → length (seriesOf p ls r) ≡ length ls
 unfolding seriesOf
 series-length p [] r = refl
 series-length p (l ∷ ls) r = ap suc (series-length p ls (drop p r))
@@ -128,7 +128,7 @@ empty-of : (r : List ℕ) (p : ℕ) → length r ≡ 0 * p → r ≡ []
 empty-of [] p e = refl
 empty-of (x ∷ r) p e = absurd (omega (arith, e))
 
-series-readings : (p : ℕ) (ls : List Labels) (r : List ℕ) → length r ≡ length ls * p → readingsOf (seriesOf p ls r) ≡ r
+pub series-readings : (p : ℕ) (ls : List Labels) (r : List ℕ) → length r ≡ length ls * p → readingsOf (seriesOf p ls r) ≡ r
 unfolding seriesOf readingsOf
 series-readings p [] r e = sym (empty-of r p e)
 series-readings p (l ∷ ls) r e = ap (λ x. take p r ++ x) (series-readings p ls (drop p r) (length-drop p r ∙ (omega (arith, e)))) ∙ take-append-drop p r

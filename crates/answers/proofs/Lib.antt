@@ -1,0 +1,4 @@
+pub mod Tallies
+pub mod Writing
+pub mod Rows
+pub mod Concluding

@@ -1,0 +1,51 @@
+-- The code's outcomes in 01's numbers, and what a call leaves in the output parts lent to it. Assumes nothing.
+use Prim.Native.Nat.{ℕ}
+use mathlib.Core.Path.{_≡_}
+use mathlib.Core.List.{List, _++_}
+use lib.ListN.{length, drop}
+use Rattle.semantics.specs.Call as Call
+use Rattle.semantics.specs.Call.{refused, answered}
+use Rattle.answers.specs.declared.Outcome.{Outcome}
+use Rattle.answers.specs.declared.Outcome.the-variants.{Answer, BadOperator, Malformed, Cut, BadKey, Readings, Unequal, LeftTwice, RightTwice, TooLarge, TooLong}
+
+-- an answer's series, points and label bytes; or a refusal's number and fields
+pub data Told : Type 0 where
+  answer : ℕ → ℕ → ℕ → Told
+  refusal : ℕ → ℕ → ℕ → Told
+
+-- 01: A refusal has its number and two fields, 0 if not named.
+abbrev pub told : Outcome → Told
+told (Answer series points bytes) = answer series points bytes
+told BadOperator = refusal 1 0 0
+told Malformed = refusal 2 0 0
+told (Cut side place) = refusal 3 side place
+told (BadKey side place) = refusal 4 side place
+told (Readings side) = refusal 5 side 0
+told Unequal = refusal 6 0 0
+told (LeftTwice kept failed) = refusal 7 kept failed
+told (RightTwice kept failed) = refusal 8 kept failed
+told TooLarge = refusal 9 0 0
+told TooLong = refusal 10 0 0
+
+abbrev pub wanted : Call.Outcome → Told
+wanted (refused n a b) = refusal n a b
+wanted (answered n p x y) = answer n p (length x)
+
+-- 01: An answer changes only its own length at the start of each output part; what lies behind it stays.
+abbrev pub startingWith : List ℕ → List ℕ → List ℕ
+startingWith x d = x ++ drop (length x) d
+
+-- 01: All refusals write no output.
+abbrev pub labelsAfter : Call.Outcome → List ℕ → List ℕ
+labelsAfter (refused n a b) d = d
+labelsAfter (answered n p x y) d = startingWith x d
+
+abbrev pub readingsAfter : Call.Outcome → List ℕ → List ℕ
+readingsAfter (refused n a b) d = d
+readingsAfter (answered n p x y) d = startingWith y d
+
+-- a call that is to come to `want` answers r, and the output parts labels₀ and out₀ hold labels and out afterwards
+pub record Ran (want : Call.Outcome) (labels₀ out₀ labels out : List ℕ) (r : Outcome) : Type 0 where
+  pub outcome : told r ≡ wanted want
+  pub labelPart : labels ≡ labelsAfter want labels₀
+  pub readingPart : out ≡ readingsAfter want out₀

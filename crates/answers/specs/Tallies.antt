@@ -1,0 +1,52 @@
+-- What an answer takes, and whether it fits. A row of an answer is a number, its code; f gives the labels of a code. Assumes nothing.
+use Prim.Native.Nat.{ℕ, _+_, _*_}
+use mathlib.Core.Path.{_≡_}
+use mathlib.Core.Bool.{Bool, false, _||_, cond}
+use mathlib.Core.List.{List, [], _∷_}
+use lib.Dec.{ltb}
+use lib.ListN.{length}
+use Rattle.model.specs.Limits.{maxSeries, maxPoints, maxTags, maxLabelBytes}
+use Rattle.model.specs.Lists.{gather}
+use Rattle.model.specs.Labels.{Labels}
+use Rattle.model.specs.Record.{encode}
+use Rattle.label_edits.specs.declared.Size.{Size}
+use Rattle.answers.specs.declared.Tally.{Tally}
+use Rattle.answers.specs.declared.Room.{Room}
+use Rattle.answers.specs.declared.Room.the-variants.{Fits, TooLarge, TooLong}
+
+-- the bytes that an edited record has at most: those of two label arrays, and of a name, a count and lengths
+abbrev pub mostOfRecord : ℕ
+mostOfRecord = 131370
+
+-- and those of all records of an answer
+abbrev pub mostBytes : ℕ
+mostBytes = 67261440
+
+abbrev pub noTally : Tally
+noTally = record { bytes = 0; wide = false }
+
+-- with one more record
+abbrev pub withSize : Tally → Size → Tally
+withSize t z = record { bytes = t .bytes + z .bytes; wide = t .wide || ltb maxTags (z .tags) }
+
+-- the records of rows, one behind another
+abbrev pub recordsOf : (ℕ → Labels) → List ℕ → List ℕ
+recordsOf f rows = gather (λ x. encode (f x)) rows
+
+-- 01: over 32 tags
+unfoldable pub someWide : (ℕ → Labels) → List ℕ → Bool
+someWide f [] = false
+someWide f (x ∷ rows) = ltb maxTags (length (f x .tags)) || someWide f rows
+
+-- what the records of rows come to
+pub record TallyOf (f : ℕ → Labels) (rows : List ℕ) (t : Tally) : Type 0 where
+  pub bytes : t .bytes ≡ length (recordsOf f rows)
+  pub wide : t .wide ≡ someWide f rows
+
+-- 01: 9, the answer has over 32 tags or 65,535 label bytes; then 10, it is longer than a lent output part.
+-- Of an answer of at most 512 series.
+abbrev pub roomOf : ℕ → ℕ → Tally → ℕ → ℕ → Room
+roomOf series points t labels readings =
+    cond (t .wide || ltb maxLabelBytes (t .bytes))
+    TooLarge
+    (cond (ltb labels (t .bytes) || ltb readings (series * points)) TooLong Fits)

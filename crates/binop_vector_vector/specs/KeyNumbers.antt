@@ -1,0 +1,73 @@
+-- The code's key numbers are those of the plan. Assumes nothing.
+use Prim.Native.Nat.{ℕ, zero, suc, _+_, _*_, _≤_, _<_}
+use mathlib.Core.Path.{_≡_, refl, sym, ap, _∙_}
+use mathlib.Core.Bool.{cond}
+use mathlib.Core.List.{List, [], _∷_, _++_, map}
+use native.Mathlib.Omega.{arith}
+use lib.Dec.{eqb}
+use lib.ListN.{length, getD, take, drop}
+use Rattle.model.specs.Labels.{Labels}
+use Rattle.model.specs.Query.{Query, sameKey}
+use Rattle.model.specs.Vector.{Series, seriesOf}
+use Rattle.timeseries.specs.Sides.{labelsIn, sideOf}
+use Rattle.timeseries.specs.Keys as Numbered
+use Rattle.timeseries.specs.Keys.{sameKeys, keptNumber, droppedMissing}
+use Rattle.timeseries.specs.KeyLaws.{left-left, left-right, right-right, left-below, right-below}
+use Rattle.plan.specs.Keys.{dropped}
+use Rattle.plan.specs.Laws.Common.{noSeries, labelsOfSide, getD-labels}
+use Rattle.plan.specs.Laws.Numbers.{TellsKeys, KeysTold, droppedKeys}
+use Rattle.plan.specs.Pairs.{noLabels}
+
+-- the labels of a side's series are its records' labels
+pub series-labels : (p : ℕ) (ls : List Labels) (readings : List ℕ) → labelsOfSide (seriesOf p ls readings) ≡ ls
+unfolding seriesOf
+series-labels p [] readings = refl
+series-labels p (l ∷ ls) readings = ap (λ x. l ∷ x) (series-labels p ls (drop p readings))
+
+pub series-count : (p : ℕ) (ls : List Labels) (readings : List ℕ) → length (seriesOf p ls readings) ≡ length ls
+unfolding seriesOf
+series-count p [] readings = refl
+series-count p (l ∷ ls) readings = ap suc (series-count p ls (drop p readings))
+
+-- series dropped by their rows in one array
+pub dropped-rows : (p : ℕ) (rows : List ℕ) (ks : List ℕ) (ls : List Labels) → length ks ≡ length ls → droppedKeys ks (seriesOf p ls rows) ≡ droppedMissing p rows ks
+unfolding droppedKeys droppedMissing seriesOf
+dropped-rows p rows [] [] e = refl
+dropped-rows p rows [] (l ∷ ls) e = absurd (omega (arith, e))
+dropped-rows p rows (k ∷ ks) [] e = absurd (omega (arith, e))
+dropped-rows p rows (k ∷ ks) (l ∷ ls) e = ap (λ x. keptNumber (take p rows) k ∷ x) (dropped-rows p (drop p rows) ks ls (omega (arith, e)))
+
+label-at : (p : ℕ) (ls : List Labels) (readings : List ℕ) (i : ℕ) → getD (seriesOf p ls readings) i noSeries .labels ≡ getD ls i noLabels
+label-at p ls readings i = sym (getD-labels (seriesOf p ls readings) i) ∙ ap (λ x. getD x i noLabels) (series-labels p ls readings)
+
+-- both sides numbered
+module _ (q : Query) (p : ℕ) (array at rows hashes keys array′ at′ rows′ hashes′ keys′ : List ℕ)
+    (n : Numbered.Numbered (q .matching) (q .matchingList) [] array at hashes keys)
+    (n′ : Numbered.Numbered (q .matching) (q .matchingList) (labelsIn array at) array′ at′ hashes′ keys′)
+    (count : length keys ≡ length (labelsIn array at)) (count′ : length keys′ ≡ length (labelsIn array′ at′))
+    (few : length (labelsIn array at) ≤ 512) (few′ : length (labelsIn array′ at′) ≤ 512) where
+  abbrev ls : List Series
+  ls = sideOf array at p rows
+
+  abbrev rs : List Series
+  rs = sideOf array′ at′ p rows′
+
+  tells : (cs ds : List Labels) (xs ys rowsC rowsD : List ℕ) → ((i j : ℕ) → i < length cs → j < length ds → eqb (getD xs i 0) (getD ys j 0) ≡ sameKeys (q .matching) (q .matchingList) (getD cs i noLabels) (getD ds j noLabels))
+      → TellsKeys q (seriesOf p cs rowsC) (seriesOf p ds rowsD) xs ys
+  unfolding sameKey
+  tells cs ds xs ys rowsC rowsD h =
+      record {
+        tells = λ i j hi hj. rw (label-at p cs rowsC i, label-at p ds rowsD j) (h i j (rw (series-count p cs rowsC) at hi) (rw (series-count p ds rowsD) at hj));
+      }
+
+  pub keys-told : KeysTold q ls rs keys keys′
+  keys-told =
+      record {
+        sameLeft = count ∙ sym (series-count p (labelsIn array at) rows);
+        sameRight = count′ ∙ sym (series-count p (labelsIn array′ at′) rows′);
+        leftLeft = tells (labelsIn array at) (labelsIn array at) keys keys rows rows (λ i j hi hj. left-left (q .matching) (q .matchingList) (labelsIn array at) (labelsIn array′ at′) keys keys′ (n .numbered) (n′ .numbered) noLabels i j hi hj);
+        leftRight = tells (labelsIn array at) (labelsIn array′ at′) keys keys′ rows rows′ (λ i j hi hj. left-right (q .matching) (q .matchingList) (labelsIn array at) (labelsIn array′ at′) keys keys′ (n .numbered) (n′ .numbered) noLabels i j hi hj);
+        rightRight = tells (labelsIn array′ at′) (labelsIn array′ at′) keys′ keys′ rows′ rows′ (λ i j hi hj. right-right (q .matching) (q .matchingList) (labelsIn array at) (labelsIn array′ at′) keys keys′ (n .numbered) (n′ .numbered) noLabels i j hi hj);
+        leftBelow = λ i h. let z = left-below (q .matching) (q .matchingList) (labelsIn array at) (labelsIn array′ at′) keys keys′ (n .numbered) (n′ .numbered) noLabels i (rw (series-count p (labelsIn array at) rows) at h) in omega (arith, z, few, few′);
+        rightBelow = λ i h. let z = right-below (q .matching) (q .matchingList) (labelsIn array at) (labelsIn array′ at′) keys keys′ (n .numbered) (n′ .numbered) noLabels i (rw (series-count p (labelsIn array′ at′) rows′) at h) in omega (arith, z, few, few′);
+      }

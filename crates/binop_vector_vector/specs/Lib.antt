@@ -1,0 +1,2 @@
+pub mod KeyNumbers
+pub mod Families

@@ -1,0 +1,182 @@
+-- Rows of a group merged: one row, and the loop over the rows. Assumes nothing.
+use Prim.Native.Nat.{ℕ, suc, _+_, _-_, _*_, _≤_, _<_}
+use mathlib.Core.Path.{_≡_, refl, sym, ap, _∙_}
+use mathlib.Core.Bool.{Bool, true, false, cond}
+use mathlib.Core.Option.{Option, none, some}
+use mathlib.Core.List.{List, [], _∷_}
+use native.Mathlib.Nat.{sub-zero, mul-le-mul-right, suc-mul}
+use native.Mathlib.Numerals.{add-one}
+use native.Mathlib.Omega.{arith}
+use lib.Dec.{eqb}
+use lib.ListN.{length, getD, take, drop, length-drop}
+use lib.Seq.{drop-cons, length-take-le, take-all}
+use borrow.Author.Tests.{eq-eqb, ne-eqb}
+use Rattle.model.specs.Lists.{cases}
+use Rattle.model.specs.Row.{merged}
+use Rattle.merge.specs.declared.Merged.{Merged}
+use Rattle.merge.specs.declared.Merged.the-variants as M
+use Rattle.merge.specs.Merging.{Merging, done, overlapping, refused, doneOr, mergedAlone, MergedAs}
+use Rattle.plan.specs.Keys.{firstOf, lastOf}
+use Rattle.plan.specs.Merging.{rowAt, RowMerge, row, failedAt, onRow, mergeGroup, mergeLast, mergeLead}
+use Rattle.merging.specs.declared.Merges.{Merges}
+use Rattle.merging.specs.declared.Merges.the-variants.{Done, FailedAt}
+use Rattle.merging.specs.Groups.{absorbedOne, thereIf, AbsorbedAs, MergedGroup}
+use Rattle.timeseries.specs.Places as Places
+use Rattle.merging.specs.Laws.{last-places, last-within}
+
+-- `absorb`
+
+done-some : (d : List ℕ) (o : Option (List ℕ)) → done d ≡ doneOr o → some d ≡ o
+done-some d none h = cc
+done-some d (some e) h = cc
+
+overlapping-none : (o : Option (List ℕ)) → overlapping ≡ doneOr o → none ≡ o
+overlapping-none none h = refl
+overlapping-none (some e) h = cc
+
+never-refused : {X : Type 0} (o : Option (List ℕ)) → refused 6 ≡ doneOr o → X
+never-refused none h = absurd (let z : _≡_ {A = ℕ} 0 1 = cc in omega arith)
+never-refused (some e) h = absurd (let z : _≡_ {A = ℕ} 0 1 = cc in omega arith)
+
+module _ (allowance : ℕ) (rows : List ℕ) (x g i : ℕ) (d : List ℕ) where
+  pub absorb-other : (x ≡ g → ⊥) → AbsorbedAs allowance rows x g i d d true
+  absorb-other h = record { answer = rw (ne-eqb x g h); unmerged = λ e. refl; long = refl }
+
+  module _ (h : x ≡ g) (room : i * length d + length d ≤ length rows) (s : List ℕ) (hs : s ≡ rowAt (length d) rows i) (m : Merged) (d′ : List ℕ) (u : MergedAs allowance d s m d′) (long : length d′ ≡ length d) where
+    wide : length d ≡ length s
+    wide = sym (ap length hs ∙ length-take-le (length d) (drop (i * length d) rows) (omega (arith, length-drop (i * length d) rows)))
+
+    alone : mergedAlone allowance d s ≡ doneOr (merged allowance d (rowAt (length d) rows i))
+    unfolding mergedAlone
+    alone = rw (eq-eqb (length d) (length s) wide, hs)
+
+    one : absorbedOne allowance rows x g i d ≡ merged allowance d (rowAt (length d) rows i)
+    one = rw (eq-eqb x g h)
+
+    pub absorb-done : m ≡ M.Done → AbsorbedAs allowance rows x g i d d′ true
+    absorb-done e =
+        record {
+          answer = done-some d′ (merged allowance d (rowAt (length d) rows i)) (rw e at (u .answer) ∙ alone) ∙ sym one;
+          unmerged = λ f. cc;
+          long = long;
+        }
+
+    pub absorb-overlapping : m ≡ M.Overlapping → AbsorbedAs allowance rows x g i d d′ false
+    absorb-overlapping e =
+        let o : overlapping ≡ mergedAlone allowance d s = rw e at (u .answer) in
+        record {
+          answer = overlapping-none (merged allowance d (rowAt (length d) rows i)) (o ∙ alone) ∙ sym one;
+          unmerged = λ f. rw (← o) at (u .left);
+          long = long;
+        }
+
+    pub absorb-unequal : m ≡ M.Unequal → AbsorbedAs allowance rows x g i d d′ false
+    absorb-unequal e = never-refused (merged allowance d (rowAt (length d) rows i)) (rw e at (u .answer) ∙ alone)
+
+-- the loop of `merge_between`
+
+-- the rows of the group before i are merged into d
+pub record Merging-on (allowance p : ℕ) (rows groups : List ℕ) (g to i : ℕ) (d : List ℕ) (want : RowMerge) : Type 0 where
+  pub within : i ≤ to
+  pub long : length d ≡ p
+  pub rest : mergeGroup allowance p rows g i (take (to - i) (drop i groups)) d ≡ want
+
+none-there : (o : Option (List ℕ)) (d : List ℕ) (refusal : RowMerge) (f : List ℕ → RowMerge) → thereIf false d ≡ o → onRow o refusal f ≡ refusal
+none-there none d refusal f h = refl
+none-there (some e) d refusal f h = absurd (let z : _≡_ {A = ℕ} 0 1 = cc in omega arith)
+
+some-there : (o : Option (List ℕ)) (d : List ℕ) (refusal : RowMerge) (f : List ℕ → RowMerge) → thereIf true d ≡ o → onRow o refusal f ≡ f d
+some-there none d refusal f h = absurd (let z : _≡_ {A = ℕ} 0 1 = cc in omega arith)
+some-there (some e) d refusal f h = let z : e ≡ d = cc in rw z
+
+module _ (allowance : ℕ) (rows groups : List ℕ) (g : ℕ) where
+  group-step : (i n : ℕ) (d : List ℕ) → i < length groups → mergeGroup allowance (length d) rows g i (take (suc n) (drop i groups)) d ≡ onRow (absorbedOne allowance rows (getD groups i 0) g i d) (failedAt i) (mergeGroup allowance (length d) rows g (suc i) (take n (drop (suc i) groups)))
+  unfolding mergeGroup
+  group-step i n d h = rw (drop-cons groups i 0 h) (cases (eqb (getD groups i 0) g) (λ e. rw e) (λ e. rw e))
+
+  pub between-starts : (from to : ℕ) (d : List ℕ) → from ≤ to → Merging-on allowance (length d) rows groups g to from d (mergeGroup allowance (length d) rows g from (take (to - from) (drop from groups)) d)
+  between-starts from to d h = record { within = h; long = refl; rest = refl }
+
+  module _ (p to i : ℕ) (d : List ℕ) (want : RowMerge) (inv : Merging-on allowance p rows groups g to i d want) where
+    module _ (h : i < to) (k : to ≤ length groups) where
+      pub between-row : length groups * p ≤ length rows → i * length d + length d ≤ length rows
+      between-row room = rw (inv .long) (let z : i * p + p ≤ length groups * p = rw (← suc-mul) (mul-le-mul-right p (omega arith)) in omega arith)
+
+      next : onRow (absorbedOne allowance rows (getD groups i 0) g i d) (failedAt i) (mergeGroup allowance (length d) rows g (suc i) (take (to - suc i) (drop (suc i) groups))) ≡ want
+      next =
+          let n : to - i ≡ suc (to - suc i) = omega arith in
+          sym (group-step i (to - suc i) d (omega arith)) ∙ rw (← n, inv .long) (inv .rest)
+
+      module _ (d′ : List ℕ) (r : Bool) (u : AbsorbedAs allowance rows (getD groups i 0) g i d d′ r) where
+        pub between-turn : r ≡ true → Merging-on allowance p rows groups g to (i + 1) d′ want
+        between-turn e =
+            record {
+              within = omega arith;
+              long = u .long ∙ inv .long;
+              rest = rw (add-one i, ← inv .long) (sym (some-there (absorbedOne allowance rows (getD groups i 0) g i d) d′ (failedAt i) (mergeGroup allowance (length d) rows g (suc i) (take (to - suc i) (drop (suc i) groups))) (rw e at (u .answer))) ∙ next);
+            }
+
+        pub between-failed : r ≡ false → MergedGroup want p d′ (FailedAt i)
+        between-failed e =
+            record {
+              answer = sym (none-there (absorbedOne allowance rows (getD groups i 0) g i d) d′ (failedAt i) (mergeGroup allowance (length d) rows g (suc i) (take (to - suc i) (drop (suc i) groups))) (rw e at (u .answer))) ∙ next;
+              long = u .long ∙ inv .long;
+            }
+
+    pub between-ends : to ≤ i → MergedGroup want p d Done
+    between-ends h = record { answer = none-left ∙ inv .rest; long = inv .long }
+      where
+        none-left : row d ≡ mergeGroup allowance p rows g i (take (to - i) (drop i groups)) d
+        none-left = unfold mergeGroup in (let n : to - i ≡ 0 = omega arith in rw n)
+
+-- `merge_last`, `merge_lead`
+
+row-of : (i n p : ℕ) (rows : List ℕ) → i < n → n * p ≤ length rows → i * p + p ≤ length rows
+row-of i n p rows h room = let z : i * p + p ≤ n * p = rw (← suc-mul) (mul-le-mul-right p (omega arith)) in omega arith
+
+row-long : (i n p : ℕ) (rows : List ℕ) → i < n → n * p ≤ length rows → length (rowAt p rows i) ≡ p
+row-long i n p rows h room =
+    length-take-le p (drop (i * p) rows) (let z = row-of i n p rows h room in omega (arith, z, length-drop (i * p) rows))
+
+module _ (rows keys : List ℕ) (p : ℕ) (room : length keys * p ≤ length rows) where
+  module _ (k : ℕ) (h : firstOf keys k < length keys) (last : ℕ) (found : last ≡ Places.lastOf keys k) where
+    hl : last ≡ lastOf keys k
+    hl = found ∙ last-places k keys
+
+    within : last < length keys
+    within = rw hl (last-within k keys h)
+
+    pub last-row : last * p + p ≤ length rows
+    last-row = row-of last (length keys) p rows within room
+
+    pub last-before : last ≤ length keys
+    last-before = omega (arith, within)
+
+    pub last-long : (s : List ℕ) → s ≡ rowAt p rows last → length s ≡ p
+    last-long s hs = rw hs (row-long last (length keys) p rows within room)
+
+    pub last-room : (s d : List ℕ) → s ≡ rowAt p rows last → d ≡ s → length keys * length d ≤ length rows
+    last-room s d hs hd = let e : length d ≡ p = rw hd (last-long s hs) in rw e room
+
+    pub last-merged : (allowance : ℕ) (s d : List ℕ) → s ≡ rowAt p rows last → d ≡ s → (d′ : List ℕ) (r : Merges) → MergedGroup (mergeGroup allowance (length d) rows k 0 (take (last - 0) (drop 0 keys)) d) (length d) d′ r → MergedGroup (mergeLast allowance p rows keys k) p d′ r
+    unfolding mergeLast
+    last-merged allowance s d hs hd d′ r m =
+        let e : length d ≡ p = rw hd (last-long s hs) in
+        rw (← hl) (rw (e, sub-zero, hd, hs) at m)
+
+  module _ (o : ℕ) (h : o < length keys) where
+    pub lead-row : o * p + p ≤ length rows
+    lead-row = row-of o (length keys) p rows h room
+
+    pub lead-long : (s : List ℕ) → s ≡ rowAt p rows o → length s ≡ p
+    lead-long s hs = rw hs (row-long o (length keys) p rows h room)
+
+    pub lead-room : (s d : List ℕ) → s ≡ rowAt p rows o → d ≡ s → length keys * length d ≤ length rows
+    lead-room s d hs hd = let e : length d ≡ p = rw hd (lead-long s hs) in rw e room
+
+    pub lead-merged : (allowance : ℕ) (s d : List ℕ) → s ≡ rowAt p rows o → d ≡ s → (d′ : List ℕ) (r : Merges) → MergedGroup (mergeGroup allowance (length d) rows o (o + 1) (take (length keys - (o + 1)) (drop (o + 1) keys)) d) (length d) d′ r → MergedGroup (mergeLead allowance p rows keys o) p d′ r
+    unfolding mergeLead
+    lead-merged allowance s d hs hd d′ r m =
+        let e : length d ≡ p = rw hd (lead-long s hs) in
+        let t : take (length keys - (o + 1)) (drop (o + 1) keys) ≡ drop (o + 1) keys = take-all (length keys - (o + 1)) (drop (o + 1) keys) (omega (arith, length-drop (o + 1) keys)) in
+        rw (e, t, add-one o, hd, hs) at m

@@ -1,0 +1,353 @@
+-- Set rules by key numbers are what the rules say. Assumes nothing.
+use Prim.Native.Nat.{ℕ, zero, suc, _+_, _-_, _*_, _<_, _≤_}
+use mathlib.Core.Path.{_≡_, refl, sym, ap, _∙_}
+use mathlib.Core.Bool.{Bool, true, false, not, cond, _&&_}
+use mathlib.Core.Option.{Option, none, some}
+use mathlib.Core.List.{List, [], _∷_, _++_, map}
+use native.Mathlib.Omega.{arith}
+use lib.Dec.{eqb}
+use lib.ListN.{length, getD}
+use lib.Seq.{getD-take, getD-drop}
+use borrow.Author.Tests.{eq-eqb, ne-eqb, lt-ltb, le-ltb}
+use Rattle.operator.specs.Kinds.{SetRule, whereFound, whereNone, filled, setRule, fallback, kindOf}
+use Rattle.model.specs.Lists.{cases, All, isEmpty, gather}
+use Rattle.model.specs.Laws.Lists.{gather-append}
+use Rattle.model.specs.Reading.{missing, noReading}
+use Rattle.model.specs.Row.{onlyMissing}
+use Rattle.model.specs.Query.{Query, Side, left, right}
+use Rattle.model.specs.Vector.{Series, Shape, readingsOf}
+use Rattle.semantics.specs.Places.{Place, Placed, Rank, numbered, placed}
+use Rattle.semantics.specs.Events.{Event, Ranked, mark, Rule, ofKey, emission, events, settle}
+use Rattle.semantics.specs.Rules.{ofSide, optional, leftResult, rightResult}
+use Rattle.semantics.specs.Binop.{Found, firstReading, someReading, setReading, pointwise, staying, met, alone, adds, Seen, isBare, scalarSide, look, unmatched, setRuleBy, ruleOf}
+use Rattle.semantics.specs.Call.{concluded, verdict}
+use Rattle.plan.specs.Keys.{firstOf, keyed}
+use Rattle.plan.specs.Merging.{rowAt}
+use Rattle.plan.specs.Conclude.{conclude}
+use Rattle.plan.specs.Pairs.{noLabels}
+use Rattle.plan.specs.Sets.{SetSides, placesOf, metPlaces, firstAt, setPoint, setRow, dropsEmpty, leftRow, leftAnswers, leftsFrom, rightsFrom, setRows, setSeries}
+use Rattle.plan.specs.Laws.Settling.{firstClash, goodSeries, firstOver, first-append, clash-gather, good-gather, clash-produced, good-produced, settled-concludes}
+use Rattle.plan.specs.Laws.Keyed.{Sees, EachSees, Numbers, all-lefts, all-rights}
+use Rattle.plan.specs.Laws.Merging.{RowsAt, row-at, first-of, first-none}
+use Rattle.plan.specs.Laws.Common.{noSeries, labelsOfSide, getD-labels, zero-plus, map-append, From, from-all, from-next, from-here}
+
+-- right series by their places in one array
+
+-- the rows of placed series stand in one array
+abbrev Stand : ℕ → List ℕ → List Placed → Type 0
+Stand p rows xs = All (λ x. rowAt p rows (x .place .number) ≡ x .series .row) xs
+
+numbersOf : List Placed → List ℕ
+numbersOf xs = map (λ x. x .place .number) xs
+
+keyed-stand : (p : ℕ) (rows : List ℕ) (side : Side) (k i : ℕ) (ks : List ℕ) (bs : List Series) → RowsAt p rows i bs → Stand p rows (keyed side k i ks bs)
+unfolding keyed
+keyed-stand p rows side k i [] bs r = tt
+keyed-stand p rows side k i (x ∷ ks) [] r = tt
+keyed-stand p rows side k i (x ∷ ks) (b ∷ bs) r =
+    cases (eqb x k)
+    (λ e. rw e (r .0, keyed-stand p rows side k (suc i) ks bs (r .1)))
+    (λ e. rw e (keyed-stand p rows side k (suc i) ks bs (r .1)))
+
+keyed-places : (side : Side) (k i : ℕ) (ks : List ℕ) (bs : List Series) → length ks ≡ length bs → numbersOf (keyed side k i ks bs) ≡ placesOf k i ks
+unfolding keyed placesOf numbersOf
+keyed-places side k i [] bs e = refl
+keyed-places side k i (x ∷ ks) [] e = absurd (omega (arith, e))
+keyed-places side k i (x ∷ ks) (b ∷ bs) e =
+    cases (eqb x k)
+    (λ f. rw (f, keyed-places side k (suc i) ks bs (omega (arith, e))))
+    (λ f. rw (f, keyed-places side k (suc i) ks bs (omega (arith, e))))
+
+reading-at : (p : ℕ) (rows : List ℕ) (j i : ℕ) → i < p → getD (rowAt p rows j) i noReading ≡ getD rows (j * p + i) noReading
+reading-at p rows j i h = rw (getD-take, getD-drop)
+
+abbrev readingOf : Option Found → Option ℕ
+readingOf none = none
+readingOf (some f) = some (f .reading)
+
+first-at : (p : ℕ) (rows : List ℕ) (i : ℕ) → i < p → (xs : List Placed) → Stand p rows xs → readingOf (firstReading xs i) ≡ firstAt p rows i (numbersOf xs)
+unfolding firstReading firstAt numbersOf
+first-at p rows i h [] s = refl
+first-at p rows i h (x ∷ xs) s =
+    let same : getD (x .series .row) i noReading ≡ getD rows (x .place .number * p + i) noReading =
+    ap (λ r. getD r i noReading) (sym (s .0)) ∙ reading-at p rows (x .place .number) i h in
+    cases (missing (getD rows (x .place .number * p + i) noReading))
+    (λ e. rw (same, e, first-at p rows i h xs (s .1)))
+    (λ e. rw (same, e))
+
+point-is : (rule : SetRule) (o : Option Found) (x : ℕ) (xs : List Placed) (i : ℕ) → firstReading xs i ≡ o → setReading rule xs i x ≡ setPoint rule (readingOf o) x
+unfolding someReading
+point-is whereFound none x xs i h = rw h
+point-is whereFound (some f) x xs i h = rw h
+point-is whereNone none x xs i h = rw h
+point-is whereNone (some f) x xs i h = rw h
+point-is filled none x xs i h = rw h (same (missing x))
+  where
+    same : (t : Bool) → cond t x x ≡ x
+    same true = refl
+    same false = refl
+point-is filled (some f) x xs i h = rw h
+
+-- a row by its points
+row-is : (rule : SetRule) (p : ℕ) (rows : List ℕ) (xs : List Placed) → Stand p rows xs → (i : ℕ) (row : List ℕ) → i + length row ≤ p
+    → pointwise (setReading rule xs) i row ≡ pointwise (λ j. setPoint rule (firstAt p rows j (numbersOf xs))) i row
+row-is rule p rows xs s i [] h = refl
+row-is rule p rows xs s i (x ∷ row) h =
+    let first : setReading rule xs i x ≡ setPoint rule (firstAt p rows i (numbersOf xs)) x =
+    point-is rule (firstReading xs i) x xs i refl ∙ ap (λ o. setPoint rule o x) (first-at p rows i (omega (arith, h)) xs s) in
+    rw (first, row-is rule p rows xs s (suc i) row (omega (arith, h)))
+
+set-row-is : (rule : SetRule) (p : ℕ) (rows : List ℕ) (xs : List Placed) → Stand p rows xs → (row : List ℕ) → length row ≡ p
+    → pointwise (setReading rule xs) 0 row ≡ setRow rule p rows (numbersOf xs) row
+unfolding setRow
+set-row-is rule p rows xs s row h = row-is rule p rows xs s 0 row (omega (arith, h))
+
+-- what stays of a matched series
+stay-series : (r : Place) (rule : SetRule) (c : Series) → goodSeries (mark r (optional (staying rule c))) ≡ cond (not (dropsEmpty rule && onlyMissing (c .row))) (c ∷ []) []
+stay-series r whereFound c = cases (onlyMissing (c .row)) (λ e. rw e) (λ e. rw e)
+stay-series r whereNone c = cases (onlyMissing (c .row)) (λ e. rw e) (λ e. rw e)
+stay-series r filled c = refl
+
+optional-clash : (r : Place) (o : Option Series) → firstClash (mark r (optional o)) ≡ none
+optional-clash r none = refl
+optional-clash r (some c) = refl
+
+met-series : (r : Place) (rule : SetRule) (p : ℕ) (rows : List ℕ) (b : Series) (y : Placed) (ys : List Placed) → Stand p rows (y ∷ ys) → length (b .row) ≡ p
+    → goodSeries (mark r (optional (met rule b (y ∷ ys))))
+    ≡ cond (leftAnswers rule p rows (numbersOf (y ∷ ys)) (b .row)) (record { labels = b .labels; row = leftRow rule p rows (numbersOf (y ∷ ys)) (b .row) } ∷ []) []
+unfolding met numbersOf
+met-series r rule p rows b y ys s h =
+    ap (λ t. goodSeries (mark r (optional (staying rule (record { labels = b .labels; row = t }))))) (set-row-is rule p rows (y ∷ ys) s (b .row) h)
+    ∙ stay-series r rule (record { labels = b .labels; row = setRow rule p rows (numbersOf (y ∷ ys)) (b .row) })
+
+alone-series : (r : Place) (rule : SetRule) (p : ℕ) (rows : List ℕ) (b : Series)
+    → goodSeries (mark r (optional (alone rule b))) ≡ cond (leftAnswers rule p rows [] (b .row)) (record { labels = b .labels; row = leftRow rule p rows [] (b .row) } ∷ []) []
+alone-series r whereFound p rows b = refl
+alone-series r whereNone p rows b = refl
+alone-series r filled p rows b = refl
+
+-- what a rule falls back to: nothing, or the right side's only series
+pub data FallsTo : Bool → Option Series → List Series → Type 0 where
+  nowhere : (rs : List Series) → FallsTo false none rs
+  onlyOne : (r : Series) → FallsTo true (some r) (r ∷ [])
+
+width-at : (p : ℕ) (bs : List Series) → All (λ b. length (b .row) ≡ p) bs → (j : ℕ) → j < length bs → length (getD bs j noSeries .row) ≡ p
+width-at p [] w j h = absurd (omega (arith, h))
+width-at p (b ∷ bs) w zero h = w .0
+width-at p (b ∷ bs) w (suc j) h = width-at p bs (w .1) j (omega (arith, h))
+
+module _ (q : Query) (rule : SetRule) (p : ℕ) (ls rs : List Series) (ks ms : List ℕ) (sameLeft : length ks ≡ length ls) (sameRight : length ms ≡ length rs)
+    (widths : All (λ b. length (b .row) ≡ p) ls) (rowsLeft : RowsAt p (readingsOf ls) 0 ls) (rowsRight : RowsAt p (readingsOf rs) 0 rs)
+    (falls : Bool) (seen : Seen) (fallsTo : FallsTo falls (seen .fallbackTo) rs) where
+  abbrev adding : Bool
+  adding = adds rule && seen .addsRight
+
+  abbrev sides : SetSides
+  sides =
+      record {
+        points = p;
+        rule = rule;
+        falls = falls;
+        adds = adding;
+        leftLabels = labelsOfSide ls;
+        leftKeys = ks;
+        leftRows = readingsOf ls;
+        rightLabels = labelsOfSide rs;
+        rightKeys = ms;
+        rightRows = readingsOf rs;
+      }
+
+  -- a left series, by the right series of its key
+
+  only-met : (r : Place) (b : Series) → length (b .row) ≡ p → (f : Bool) (o : Option Series) (cs : List Series) → FallsTo f o cs → RowsAt p (readingsOf rs) 0 cs
+      → goodSeries (mark r (optional (unmatched rule o b)))
+      ≡ cond (leftAnswers rule p (readingsOf rs) (cond f (0 ∷ []) []) (b .row)) (record { labels = b .labels; row = leftRow rule p (readingsOf rs) (cond f (0 ∷ []) []) (b .row) } ∷ []) []
+  unfolding numbersOf
+  only-met r b w _ _ _ (nowhere cs) h = alone-series r rule p (readingsOf rs) b
+  only-met r b w _ _ _ (onlyOne c) h =
+      met-series r rule p (readingsOf rs) b (record { place = record { side = right; number = 0 }; series = c }) [] (h .0, tt) w
+
+  left-series : (r : Place) (b : Series) (k : ℕ) → length (b .row) ≡ p → (zs : List Placed) → keyed right k 0 ms rs ≡ zs
+      → goodSeries (mark r (leftResult (unmatched rule (seen .fallbackTo)) (met rule) b zs))
+      ≡ cond (leftAnswers rule p (readingsOf rs) (metPlaces falls ms k) (b .row)) (record { labels = b .labels; row = leftRow rule p (readingsOf rs) (metPlaces falls ms k) (b .row) } ∷ []) []
+  unfolding numbersOf
+  left-series r b k w [] h =
+      let none-met : placesOf k 0 ms ≡ [] = sym (keyed-places right k 0 ms rs sameRight) ∙ ap (λ l. map (λ x. x .place .number) l) h in
+      rw none-met (only-met r b w falls (seen .fallbackTo) rs fallsTo rowsRight)
+  left-series r b k w (y ∷ ys) h =
+      let some-met : placesOf k 0 ms ≡ map (λ x. x .place .number) (y ∷ ys) = sym (keyed-places right k 0 ms rs sameRight) ∙ ap (λ l. map (λ x. x .place .number) l) h in
+      rw some-met (met-series r rule p (readingsOf rs) b y ys (rw h at (keyed-stand p (readingsOf rs) right k 0 ms rs rowsRight)) w)
+
+  left-clash : (r : Place) (b : Series) (zs : List Placed) → firstClash (mark r (leftResult (unmatched rule (seen .fallbackTo)) (met rule) b zs)) ≡ none
+  left-clash r b [] = optional-clash r (unmatched rule (seen .fallbackTo) b)
+  left-clash r b (y ∷ ys) = optional-clash r (met rule b (y ∷ ys))
+
+  left-is : (b : Series) (i k : ℕ) → i < length ks → getD ls i noSeries ≡ b → getD ks i 0 ≡ k
+      → setSeries sides i ≡ record { labels = b .labels; row = leftRow rule p (readingsOf rs) (metPlaces falls ms k) (b .row) }
+  unfolding setSeries
+  left-is b i k h hb hk =
+      let stands : rowAt p (readingsOf ls) i ≡ b .row = sym (ap (rowAt p (readingsOf ls)) (zero-plus i)) ∙ row-at p (readingsOf ls) 0 ls rowsLeft i (omega (arith, h, sameLeft)) ∙ ap (λ c. c .row) hb in
+      let labels : getD (labelsOfSide ls) i noLabels ≡ b .labels = getD-labels ls i ∙ ap (λ c. c .labels) hb in
+      rw (lt-ltb i (length ks) h, hk, stands, labels)
+
+  -- a right series, by the left series of its key
+
+  right-clash : (r : Place) (b : Series) (xs : List Placed) (t : Bool) → firstClash (mark r (cond t (rightResult b xs) [])) ≡ none
+  right-clash r b [] true = refl
+  right-clash r b (x ∷ xs) true = refl
+  right-clash r b xs false = refl
+
+  right-series : (r : Place) (b : Series) (k : ℕ) (xs : List Placed) → keyed left k 0 ks ls ≡ xs
+      → goodSeries (mark r (rightResult b xs)) ≡ cond (eqb (firstOf ks k) (length ks)) (b ∷ []) []
+  right-series r b k [] h = rw (eq-eqb (firstOf ks k) (length ks) (first-none left k 0 ks ls sameLeft h))
+  right-series r b k (y ∷ ys) h = rw (ne-eqb (firstOf ks k) (length ks) (λ e. let f = first-of left k 0 ks ls y ys h in omega (arith, e, f .within)))
+
+  right-is : (b : Series) (j : ℕ) → j < length ms → getD rs j noSeries ≡ b → setSeries sides (length ks + j) ≡ b
+  unfolding setSeries
+  right-is b j h hb =
+      let behind : length ks + j - length ks ≡ j = omega arith in
+      let stands : rowAt p (readingsOf rs) j ≡ b .row = sym (ap (rowAt p (readingsOf rs)) (zero-plus j)) ∙ row-at p (readingsOf rs) 0 rs rowsRight j (omega (arith, h, sameRight)) ∙ ap (λ c. c .row) hb in
+      let labels : getD (labelsOfSide rs) j noLabels ≡ b .labels = getD-labels rs j ∙ ap (λ c. c .labels) hb in
+      rw (le-ltb (length ks + j) (length ks) (omega arith), behind, stands, labels)
+
+  -- all of them
+
+  abbrev obeys : Rule
+  obeys = setRuleBy rule seen
+
+  abbrev emits : Placed → List (Ranked Rank Event)
+  emits = emission q obeys (placed ls rs)
+
+  emits-left : (b : Series) (i k : ℕ) → length (b .row) ≡ p → Sees q false ls rs ks ms b k
+      → goodSeries (emits (record { place = record { side = left; number = i }; series = b }))
+      ≡ cond (leftAnswers rule p (readingsOf rs) (metPlaces falls ms k) (b .row)) (record { labels = b .labels; row = leftRow rule p (readingsOf rs) (metPlaces falls ms k) (b .row) } ∷ []) []
+  emits-left b i k w s =
+      good-produced (record { side = left; number = i }) (obeys (record { place = record { side = left; number = i }; series = b }) (ofKey q (b .labels) (placed ls rs)))
+      ∙ left-series (record { side = left; number = i }) b k w (ofSide right (ofKey q (b .labels) (placed ls rs))) (sym (all-rights q ls rs ks ms b k s))
+
+  clash-left : (b : Series) (i : ℕ) → firstClash (emits (record { place = record { side = left; number = i }; series = b })) ≡ none
+  clash-left b i =
+      clash-produced (record { side = left; number = i }) (obeys (record { place = record { side = left; number = i }; series = b }) (ofKey q (b .labels) (placed ls rs)))
+      ∙ left-clash (record { side = left; number = i }) b (ofSide right (ofKey q (b .labels) (placed ls rs)))
+
+  clash-right : (b : Series) (i : ℕ) → firstClash (emits (record { place = record { side = right; number = i }; series = b })) ≡ none
+  clash-right b i =
+      clash-produced (record { side = right; number = i }) (obeys (record { place = record { side = right; number = i }; series = b }) (ofKey q (b .labels) (placed ls rs)))
+      ∙ right-clash (record { side = right; number = i }) b (ofSide left (ofKey q (b .labels) (placed ls rs))) adding
+
+  emits-right : (b : Series) (j k : ℕ) → Sees q false ls rs ks ms b k
+      → goodSeries (emits (record { place = record { side = right; number = j }; series = b })) ≡ cond adding (cond (eqb (firstOf ks k) (length ks)) (b ∷ []) []) []
+  emits-right b j k s =
+      good-produced (record { side = right; number = j }) (obeys (record { place = record { side = right; number = j }; series = b }) (ofKey q (b .labels) (placed ls rs)))
+      ∙ go adding
+    where
+      go : (t : Bool) → goodSeries {R = Place} (mark (record { side = right; number = j }) (cond t (rightResult b (ofSide left (ofKey q (b .labels) (placed ls rs)))) []))
+          ≡ cond t (cond (eqb (firstOf ks k) (length ks)) (b ∷ []) []) []
+      go true = right-series (record { side = right; number = j }) b k (ofSide left (ofKey q (b .labels) (placed ls rs))) (sym (all-lefts q ls rs ks ms b k s))
+      go false = refl
+
+  lefts-series : (i : ℕ) (g : ℕ → ℕ) (bs : List Series) (xs : List ℕ) → ((j : ℕ) → g j ≡ i + j) → From noSeries ls bs i → From 0 ks xs i → EachSees (Sees q false ls rs ks ms) bs xs
+      → gather (λ x. goodSeries (emits x)) (numbered left g bs) ≡ map (setSeries sides) (leftsFrom sides i xs)
+  unfolding leftsFrom
+  lefts-series i g [] [] h fb fk e = refl
+  lefts-series i g [] (k ∷ xs) h fb fk e = absurd e
+  lefts-series i g (b ∷ bs) [] h fb fk e = absurd e
+  lefts-series i g (b ∷ bs) (k ∷ xs) h fb fk e =
+      let first : g zero ≡ i = h zero ∙ (omega arith) in
+      let within : i < length ks = omega (arith, fk .size) in
+      let hb = from-here noSeries ls b bs i fb in
+      let hk = from-here 0 ks k xs i fk in
+      let width : length (b .row) ≡ p = ap (λ c. length (c .row)) (sym hb) ∙ width-at p ls widths i (omega (arith, within, sameLeft)) in
+      let stands : rowAt p (readingsOf ls) i ≡ b .row = sym (ap (rowAt p (readingsOf ls)) (zero-plus i)) ∙ row-at p (readingsOf ls) 0 ls rowsLeft i (omega (arith, within, sameLeft)) ∙ ap (λ c. c .row) hb in
+      let rest = lefts-series (suc i) (λ j. g (suc j)) bs xs (λ j. h (suc j) ∙ (omega arith)) (from-next noSeries ls b bs i fb) (from-next 0 ks k xs i fk) (e .1) in
+      rw (first, emits-left b i k width (e .0), rest, stands)
+      (joined (leftAnswers rule p (readingsOf rs) (metPlaces falls ms k) (b .row)) (left-is b i k within hb hk))
+    where
+      joined : (t : Bool) {c : Series} → setSeries sides i ≡ c
+          → cond t (c ∷ []) [] ++ map (setSeries sides) (leftsFrom sides (suc i) xs) ≡ map (setSeries sides) (cond t (i ∷ leftsFrom sides (suc i) xs) (leftsFrom sides (suc i) xs))
+      joined true e = ap (λ c. c ∷ map (setSeries sides) (leftsFrom sides (suc i) xs)) (sym e)
+      joined false e = refl
+
+  rights-series : (j : ℕ) (g : ℕ → ℕ) (bs : List Series) (xs : List ℕ) → ((n : ℕ) → g n ≡ j + n) → From noSeries rs bs j → From 0 ms xs j → EachSees (Sees q false ls rs ks ms) bs xs
+      → gather (λ x. goodSeries (emits x)) (numbered right g bs) ≡ map (setSeries sides) (cond adding (rightsFrom ks j xs) [])
+  unfolding rightsFrom
+  rights-series j g [] [] h fb fk e = cases adding (λ t. rw t) (λ t. rw t)
+  rights-series j g [] (k ∷ xs) h fb fk e = absurd e
+  rights-series j g (b ∷ bs) [] h fb fk e = absurd e
+  rights-series j g (b ∷ bs) (k ∷ xs) h fb fk e =
+      let first : g zero ≡ j = h zero ∙ (omega arith) in
+      let within : j < length ms = omega (arith, fk .size) in
+      let rest = rights-series (suc j) (λ n. g (suc n)) bs xs (λ n. h (suc n) ∙ (omega arith)) (from-next noSeries rs b bs j fb) (from-next 0 ms k xs j fk) (e .1) in
+      rw (first, emits-right b j k (e .0), rest)
+      (joined adding (eqb (firstOf ks k) (length ks)) (right-is b j within (from-here noSeries rs b bs j fb)))
+    where
+      joined : (t u : Bool) → setSeries sides (length ks + j) ≡ b
+          → cond t (cond u (b ∷ []) []) [] ++ map (setSeries sides) (cond t (rightsFrom ks (suc j) xs) [])
+          ≡ map (setSeries sides) (cond t (cond u ((length ks + j) ∷ rightsFrom ks (suc j) xs) (rightsFrom ks (suc j) xs)) [])
+      joined true true e = ap (λ c. c ∷ map (setSeries sides) (rightsFrom ks (suc j) xs)) (sym e)
+      joined true false e = refl
+      joined false u e = refl
+
+  none-clash : (side : Side) → ((b : Series) (i : ℕ) → firstClash (emits (record { place = record { side = side; number = i }; series = b })) ≡ none) → (g : ℕ → ℕ) (bs : List Series)
+      → firstOver (λ x. firstClash (emits x)) (numbered side g bs) ≡ none
+  none-clash side h g [] = refl
+  none-clash side h g (b ∷ bs) = rw (h b (g zero), none-clash side h (λ j. g (suc j)) bs)
+
+  pub sets-conclude : (labelRoom room : ℕ) (shape : Shape) → Numbers q false ls rs ks ms
+      → concluded labelRoom room shape (settle (events q obeys (placed ls rs))) ≡ conclude labelRoom room shape none (map (setSeries sides) (setRows sides))
+  sets-conclude a b shape n =
+      let clashless : firstClash (events q obeys (placed ls rs)) ≡ none =
+      clash-gather emits (placed ls rs) ∙ first-append (λ x. firstClash (emits x)) (numbered left (λ i. i) ls) (numbered right (λ i. i) rs)
+      ∙ rw (none-clash left clash-left (λ i. i) ls, none-clash right clash-right (λ i. i) rs) in
+      let series : goodSeries (events q obeys (placed ls rs)) ≡ map (setSeries sides) (setRows sides) =
+      good-gather emits (placed ls rs) ∙ gather-append (λ x. goodSeries (emits x)) (numbered left (λ i. i) ls) (numbered right (λ i. i) rs)
+      ∙ rw (lefts-series 0 (λ i. i) ls ks (λ j. omega arith) (from-all noSeries ls) (from-all 0 ks) (n .ofLefts), rights-series 0 (λ i. i) rs ms (λ j. omega arith) (from-all noSeries rs) (from-all 0 ms) (n .ofRights))
+      (sym (map-append (setSeries sides) (leftsFrom sides 0 ks) (cond adding (rightsFrom ks 0 ms) []))) in
+      settled-concludes a b shape (events q obeys (placed ls rs)) ∙ rw (clashless, series)
+
+-- the law, for the operators that do not fall back and for those that do
+
+abbrev pub isGiven : Option Series → Bool
+isGiven none = false
+isGiven (some r) = true
+
+scalar-falls : (rs : List Series) → FallsTo (isGiven (scalarSide rs)) (scalarSide rs) rs
+scalar-falls [] = nowhere []
+scalar-falls (r ∷ []) = go (isBare (r .labels))
+  where
+    go : (t : Bool) → FallsTo (isGiven (cond t (some r) none)) (cond t (some r) none) (r ∷ [])
+    go true = onlyOne r
+    go false = nowhere (r ∷ [])
+scalar-falls (r ∷ s ∷ rs) = nowhere (r ∷ s ∷ rs)
+
+module _ (q : Query) (rule : SetRule) (p : ℕ) (ls rs : List Series) (ks ms : List ℕ) (sameLeft : length ks ≡ length ls) (sameRight : length ms ≡ length rs)
+    (widths : All (λ b. length (b .row) ≡ p) ls) (rowsLeft : RowsAt p (readingsOf ls) 0 ls) (rowsRight : RowsAt p (readingsOf rs) 0 rs) (labelRoom room : ℕ) (shape : Shape) where
+  abbrev pub setSidesOf : Bool → Bool → SetSides
+  setSidesOf falls adding =
+      record {
+        points = p;
+        rule = rule;
+        falls = falls;
+        adds = adds rule && adding;
+        leftLabels = labelsOfSide ls;
+        leftKeys = ks;
+        leftRows = readingsOf ls;
+        rightLabels = labelsOfSide rs;
+        rightKeys = ms;
+        rightRows = readingsOf rs;
+      }
+
+  pub set-concludes : kindOf (q .operator) ≡ setRule rule → Numbers q false ls rs ks ms
+      → concluded labelRoom room shape (verdict q ls rs) ≡ conclude labelRoom room shape none (map (setSeries (setSidesOf false true)) (setRows (setSidesOf false true)))
+  unfolding verdict
+  set-concludes hk n =
+      ap (λ o. concluded labelRoom room shape (settle (events q (ruleOf q o (look o ls rs)) (placed ls rs)))) hk
+      ∙ sets-conclude q rule p ls rs ks ms sameLeft sameRight widths rowsLeft rowsRight false (look (setRule rule) ls rs) (nowhere rs) labelRoom room shape n
+
+  pub fallback-concludes : kindOf (q .operator) ≡ fallback rule → Numbers q false ls rs ks ms
+      → concluded labelRoom room shape (verdict q ls rs)
+      ≡ conclude labelRoom room shape none (map (setSeries (setSidesOf (isGiven (scalarSide rs)) (isEmpty ls))) (setRows (setSidesOf (isGiven (scalarSide rs)) (isEmpty ls))))
+  unfolding verdict
+  fallback-concludes hk n =
+      ap (λ o. concluded labelRoom room shape (settle (events q (ruleOf q o (look o ls rs)) (placed ls rs)))) hk
+      ∙ sets-conclude q rule p ls rs ks ms sameLeft sameRight widths rowsLeft rowsRight (isGiven (scalarSide rs)) (look (fallback rule) ls rs) (scalar-falls rs) labelRoom room shape n

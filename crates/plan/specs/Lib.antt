@@ -1,0 +1,7 @@
+pub mod Keys
+pub mod Merging
+pub mod Conclude
+pub mod Pairs
+pub mod Joins
+pub mod Sets
+pub mod Laws

@@ -1,0 +1,114 @@
+-- The code's query and its answers, as those of the definitions. Assumes nothing.
+use Prim.Native.Nat.{ℕ, _-_, _<_}
+use mathlib.Core.Path.{_≡_}
+use mathlib.Core.Bool.{Bool, true, false, not, _&&_, cond}
+use mathlib.Core.List.{List}
+use lib.Dec.{eqb}
+use lib.ListN.{length, getD, take, drop}
+use Rattle.operator.specs.declared.Operator.{Operator}
+use Rattle.operator.specs.Kinds.{Kind, arithmetic, comparison, setRule, fallback, notCarried, kindOf}
+use Rattle.model.specs.Lists.{isEmpty}
+use Rattle.model.specs.Edits.{Names}
+use Rattle.model.specs.Query as Model
+use Rattle.labels.specs.Names.{namesOf}
+use Rattle.labels.specs.Matchings.{matchingOf}
+use Rattle.query.specs.declared.Join.{Join}
+use Rattle.query.specs.declared.Join.the-variants.{OneToOne, GroupLeft, GroupRight}
+use Rattle.query.specs.declared.Query.{Query}
+use Rattle.query.specs.declared.Request.{Request}
+use Rattle.query.specs.declared.Request.the-variants.{Asked, BadOperator, Malformed}
+use Rattle.query.specs.declared.ListEnd.{ListEnd}
+use Rattle.query.specs.declared.ListEnd.the-variants.{Until, Bad}
+
+abbrev pub joinOf : Join → Model.Join
+joinOf OneToOne = Model.oneToOne
+joinOf GroupLeft = Model.group Model.left
+joinOf GroupRight = Model.group Model.right
+
+-- the lists as parts of the query's bytes
+abbrev pub matchingPart : List ℕ → ℕ → List ℕ
+matchingPart s joinAt = take (joinAt - 4) (drop 4 s)
+
+abbrev pub joinPart : List ℕ → ℕ → List ℕ
+joinPart s joinAt = drop joinAt s
+
+-- the query that the code's stands for, with the bytes that it was taken from
+abbrev pub queryOf : List ℕ → Query → Model.Query
+queryOf s q = record {
+  operator = q .operator;
+  matching = matchingOf (q .matching);
+  join = joinOf (q .join);
+  keepNames = q .«keep_names»;
+  bool = q .bool;
+  matchingList = namesOf (matchingPart s (q .«join_at»));
+  joinList = namesOf (joinPart s (q .«join_at»));
+}
+
+-- a query, or 01's number
+pub data Answer : Type 0 where
+  taken : Model.Query → Answer
+  refused : ℕ → Answer
+
+-- 01: Taking a query: 1, operator above 18, or 2 or 8; then 2, the query otherwise not as above.
+abbrev pub numbered : Model.TakenQuery → Answer
+numbered (Model.query q) = taken q
+numbered Model.badOperator = refused 1
+numbered Model.malformed = refused 2
+
+abbrev pub answerOf : List ℕ → Request → Answer
+answerOf s (Asked q) = taken (queryOf s q)
+answerOf s BadOperator = refused 1
+answerOf s Malformed = refused 2
+
+-- both lists have a count byte
+pub record ListsWithin (s : List ℕ) (joinAt : ℕ) : Type 0 where
+  pub first : 4 < joinAt
+  pub second : joinAt < length s
+
+-- the code answers r where taking the bytes s gives t
+pub record TakenAs (s : List ℕ) (t : Model.TakenQuery) (r : Request) : Type 0 where
+  pub answer : answerOf s r ≡ numbered t
+  pub within : (q : Query) → r ≡ Asked q → ListsWithin s (q .«join_at»)
+
+-- where a list ends, in so many bytes
+abbrev pub endOf : ℕ → Model.Listed → ListEnd
+endOf n Model.notListed = Bad
+endOf n (Model.listed ns rest) = Until (n - length rest)
+
+-- two lists and nothing behind them
+pub data Lists : Type 0 where
+  noLists : Lists
+  lists : Names → Names → Lists
+
+abbrev pub listsIn : List ℕ → Lists
+listsIn s =
+    Model.onListed (Model.listIn s) noLists (λ ns s₁. Model.onListed (Model.listIn s₁) noLists (λ js s₂. cond (isEmpty s₂) (lists ns js) noLists))
+
+abbrev pub listsOf : List ℕ → ListEnd → Lists
+listsOf s (Until at) = lists (namesOf (matchingPart s at)) (namesOf (joinPart s at))
+listsOf s Bad = noLists
+
+-- a list is empty where its count byte is 0
+pub record Counts (s : List ℕ) (joinAt : ℕ) : Type 0 where
+  pub within : ListsWithin s joinAt
+  pub matching : isEmpty (namesOf (matchingPart s joinAt)) ≡ eqb (getD s 4 0) 0
+  pub join : isEmpty (namesOf (joinPart s joinAt)) ≡ eqb (getD s joinAt 0) 0
+
+pub record ListsAt (s : List ℕ) (r : ListEnd) : Type 0 where
+  pub same : listsOf s r ≡ listsIn (drop 4 s)
+  pub counts : (at : ℕ) → r ≡ Until at → Counts s at
+
+-- 01: its name cleared where `should_reset_metric_group` says: by arithmetic, and by a comparison with bool, unless names are kept.
+-- (belongs to model)
+abbrev pub resetsOfKind : Kind → Bool → Bool → Bool
+resetsOfKind (arithmetic k) keepNames bool = not keepNames
+resetsOfKind (comparison c) keepNames bool = bool && not keepNames
+resetsOfKind (setRule s) keepNames bool = false
+resetsOfKind (fallback s) keepNames bool = false
+resetsOfKind notCarried keepNames bool = not keepNames
+
+abbrev pub resets : Operator → Bool → Bool → Bool
+resets o keepNames bool = resetsOfKind (kindOf o) keepNames bool
+
+abbrev pub resetsName : Model.Query → Bool
+resetsName q = resets (q .operator) (q .keepNames) (q .bool)

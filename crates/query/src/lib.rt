@@ -1,0 +1,221 @@
+// Queries, taken from bytes.
+ghost use mathlib.Core.Path.{_≡_};
+ghost use mathlib.Core.Bool.{_||_};
+ghost use Prim.Native.Nat.{_≤_, _<_};
+ghost use lib.Dec.{eqb};
+ghost use lib.ListN.{length, drop};
+ghost use Rattle.model.specs.Query as Model;
+ghost use Rattle.labels.specs.Matchings.{matchingOf};
+ghost use Rattle.query.specs.Queries.{joinOf, endOf, ListsAt, TakenAs, resets};
+use labels::Matching;
+use labels::Place;
+use operator::Coded;
+use operator::Operator;
+
+pub const MAX_LISTED: usize = 32;
+
+// The many side of a join is the left one for `GroupLeft`.
+pub enum Join {
+    OneToOne,
+    GroupLeft,
+    GroupRight,
+}
+
+// A query by value. Its matching list is the bytes from 4 to `join_at`, its join list those from there on.
+pub struct Query {
+    pub operator: Operator,
+    pub matching: Matching,
+    pub join: Join,
+    pub keep_names: bool,
+    pub bool: bool,
+    pub join_at: usize,
+}
+
+pub enum Request {
+    Asked(Query),
+    BadOperator,
+    Malformed,
+}
+
+// How far a list goes.
+pub enum ListEnd {
+    Until(usize),
+    Bad,
+}
+
+// The end of n labels that begin at a place.
+fn labels_end(s: &[u8], at: usize, n: usize) -> ListEnd
+    requires { ⌜ at ≤ length (now s) ⌝ }
+    ensures { λ r. ⌜ r ≡ endOf (length (now (s .entry))) (Model.namesIn n (drop at (now (s .entry)))) ⌝ }
+{
+    let mut p = at;
+    let mut left = n;
+    while 0 < left {
+        let Place::At { start, end } = labels::field_at(s, p) else {
+            return ListEnd::Bad;
+        };
+        if start == end {
+            return ListEnd::Bad;
+        }
+        p = end;
+        left -= 1;
+    }
+    ListEnd::Until(p)
+}
+
+// The end of the list at the start of the bytes; what follows it is not looked at.
+pub fn list_end(s: &[u8]) -> ListEnd
+    ensures { λ r. ⌜ r ≡ endOf (length (now (s .entry))) (Model.listIn (now (s .entry))) ⌝ }
+{
+    if s.len() == 0 {
+        return ListEnd::Bad;
+    }
+    let n = s[0] as usize;
+    if MAX_LISTED < n {
+        return ListEnd::Bad;
+    }
+    labels_end(s, 1, n)
+}
+
+// Where the join list stands, if the query's bytes from 4 on are two lists.
+fn join_place(s: &[u8]) -> ListEnd
+    requires { ⌜ 4 ≤ length (now s) ⌝ }
+    ensures { λ r. ⌜ ListsAt (now (s .entry)) r ⌝ }
+{
+    let ListEnd::Until(n) = list_end(&s[4..]) else {
+        return ListEnd::Bad;
+    };
+    let at = 4 + n;
+    let ListEnd::Until(m) = list_end(&s[at..]) else {
+        return ListEnd::Bad;
+    };
+    if at + m == s.len() {
+        ListEnd::Until(at)
+    } else {
+        ListEnd::Bad
+    }
+}
+
+fn matching_of(b: u8) -> Matching
+    ensures { λ r. ⌜ matchingOf r ≡ Model.matchingOf b ⌝ }
+{
+    match b {
+        0 => Matching::All,
+        1 => Matching::On,
+        _ => Matching::Ignoring,
+    }
+}
+
+fn join_of(b: u8) -> Join
+    ensures { λ r. ⌜ joinOf r ≡ Model.joinOf b ⌝ }
+{
+    match b {
+        1 => Join::GroupLeft,
+        2 => Join::GroupRight,
+        _ => Join::OneToOne,
+    }
+}
+
+fn is_matched(m: Matching) -> bool
+    ensures { λ r. ⌜ r ≡ Model.isMatched (matchingOf m) ⌝ }
+{
+    match m {
+        Matching::All => false,
+        Matching::On => true,
+        Matching::Ignoring => true,
+    }
+}
+
+fn is_group(j: Join) -> bool
+    ensures { λ r. ⌜ r ≡ Model.isGroup (joinOf j) ⌝ }
+{
+    match j {
+        Join::OneToOne => false,
+        Join::GroupLeft => true,
+        Join::GroupRight => true,
+    }
+}
+
+// A list that is not used is empty.
+fn may_stand(used: bool, count: u8) -> bool
+    ensures { λ r. ⌜ r ≡ used || eqb count 0 ⌝ }
+{
+    if used { true } else { count == 0 }
+}
+
+// The query behind an operator that is carried.
+fn take_modifier(s: &[u8], operator: Operator) -> Request
+    requires { ⌜ 0 < length (now s) ⌝ }
+    ensures { λ r. ⌜ TakenAs (now (s .entry)) (Model.modified operator (drop 1 (now (s .entry)))) r ⌝ }
+{
+    if s.len() < 4 {
+        return Request::Malformed;
+    }
+    if 2 < s[1] {
+        return Request::Malformed;
+    }
+    if 3 < s[2] {
+        return Request::Malformed;
+    }
+    if 3 < s[3] {
+        return Request::Malformed;
+    }
+    let ListEnd::Until(at) = join_place(s) else {
+        return Request::Malformed;
+    };
+    let matching = matching_of(s[1]);
+    let join = join_of(s[2]);
+    let flags = s[3];
+    if may_stand(is_matched(matching), s[4]) {
+        if may_stand(is_group(join), s[at]) {
+            Request::Asked(Query {
+                operator,
+                matching,
+                join,
+                keep_names: flags % 2 == 1,
+                bool: flags >= 2,
+                join_at: at,
+            })
+        } else {
+            Request::Malformed
+        }
+    } else {
+        Request::Malformed
+    }
+}
+
+pub fn take_query(s: &[u8]) -> Request
+    ensures { λ r. ⌜ TakenAs (now (s .entry)) (Model.takeQuery (now (s .entry))) r ⌝ }
+{
+    if s.len() == 0 {
+        return Request::Malformed;
+    }
+    match Operator::from_byte(s[0]) {
+        Coded::Known(operator) => {
+            if operator.is_carried() {
+                take_modifier(s, operator)
+            } else {
+                Request::BadOperator
+            }
+        }
+        Coded::Unknown => Request::BadOperator,
+    }
+}
+
+// Whether the names of an answer's series are cleared: the Rust's `should_reset_metric_group`.
+pub fn resets_name(q: Query) -> bool
+    ensures { λ r. ⌜ r ≡ resets (q .operator) (q .«keep_names») (q .bool) ⌝ }
+{
+    let operator = q.operator;
+    if q.keep_names {
+        return false;
+    }
+    if operator.is_logical_op() {
+        return false;
+    }
+    if operator.is_comparison() {
+        q.bool
+    } else {
+        true
+    }
+}

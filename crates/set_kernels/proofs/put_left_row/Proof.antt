@@ -1,0 +1,17 @@
+-- `put_left_row` meets its contract. Assumes nothing.
+use borrow.Author.Needs.{needs}
+use Rattle.set_kernels.proofs.Left.{front-few, front-count, front-within, front-row}
+use Rattle.set_kernels.proofs.put_left_row.Statement.{statement}
+use Rattle.set_kernels.proofs.put_left_row.Tie as tie
+
+pub put-left-row-spec : {M : Type 1} → statement M
+put-left-row-spec =
+    tie.close
+    (tie.spec
+    (λ c. search needs)
+    (λ c κs. search needs)
+    (λ c. search front-few)
+    (λ c. search front-count)
+    (λ c κs. (search needs, search front-within))
+    (λ c. search needs)
+    (λ c. search front-row))

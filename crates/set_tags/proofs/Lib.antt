@@ -1,0 +1,5 @@
+pub mod Tests
+pub mod Walks
+pub mod Sizes
+pub mod Loops
+pub mod Names

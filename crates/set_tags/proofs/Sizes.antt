@@ -1,0 +1,103 @@
+-- An edited record is no longer than the two that it is made of, and its parts can be counted. Assumes nothing.
+use Prim.Native.Nat.{ℕ, _+_, _*_, _≤_, _<_}
+use mathlib.Core.Path.{_≡_, refl, sym, ap, _∙_}
+use mathlib.Core.Bool.{Bool, true, false, cond}
+use mathlib.Core.List.{List, [], _∷_, _++_}
+use native.Mathlib.Omega.{arith}
+use mir.Syntax.{w8, w64}
+use mir.Val.{Fits}
+use lib.ListN.{length, getD, length-append}
+use Rattle.model.specs.Limits.{maxTags, maxLabelBytes}
+use Rattle.model.specs.Lists.{cases}
+use Rattle.model.specs.Labels.{Tag, Labels, below}
+use Rattle.model.specs.Laws.Record.{field-read}
+use Rattle.model.specs.Record.{Field, short, field, readField, onField, encodeField, encodeTags, encode}
+use Rattle.model.specs.Edits.{Names}
+use Rattle.model.specs.Laws.SetTags.{isSet, stays, stayingTags, setFrom, mergeTags, merge-nil, merge-left, merge-right}
+use Rattle.metric_name.specs.Lenient.{tagsUpTo, tagsCounted, labelsOf}
+use Rattle.metric_name.specs.Cursors.{encodeTag, encode-tag}
+use Rattle.label_edits.specs.Edited.{TagsSized, Sized}
+use Rattle.label_edits.specs.declared.Size.{Size}
+use Rattle.label_edits.proofs.Sizes.{length-labels, chosen-short, tags-short}
+use Rattle.set_tags.specs.Streams.{editedTags, set-sieve, staying-sieve}
+use Rattle.set_tags.specs.Records.{ShortRecords, nameOf, edited}
+use Rattle.set_tags.specs.declared.Naming.{Naming}
+use Rattle.set_tags.specs.declared.Naming.the-variants.{Nobody, Many, Source}
+
+no-bytes : length (encodeTags []) ≡ 0
+unfolding encodeTags
+no-bytes = refl
+
+length-tags : (t : Tag) (ts : List Tag) → length (encodeTags (t ∷ ts)) ≡ length (encodeTag t) + length (encodeTags ts)
+length-tags t ts = ap length (encode-tag t ts) ∙ length-append (encodeTag t) (encodeTags ts)
+
+nil-merge : (ys : List Tag) → mergeTags [] ys ≡ ys
+unfolding mergeTags
+nil-merge ys = refl
+
+-- merging loses no byte
+merge-bytes : (xs ys : List Tag) → length (encodeTags (mergeTags xs ys)) ≡ length (encodeTags xs) + length (encodeTags ys)
+merge-bytes [] ys = ap (λ l. length (encodeTags l)) (nil-merge ys) ∙ (omega (arith, no-bytes))
+merge-bytes (x ∷ xs) ys = go ys (merge-bytes xs)
+  where
+    go : (ys : List Tag) → ((zs : List Tag) → length (encodeTags (mergeTags xs zs)) ≡ length (encodeTags xs) + length (encodeTags zs))
+        → length (encodeTags (mergeTags (x ∷ xs) ys)) ≡ length (encodeTags (x ∷ xs)) + length (encodeTags ys)
+    go [] ih = ap (λ l. length (encodeTags l)) (merge-nil (x ∷ xs)) ∙ (omega (arith, no-bytes))
+    go (y ∷ ys) ih =
+        cases (below (x .key) (y .key))
+        (λ e. ap (λ l. length (encodeTags l)) (merge-left x xs y ys e) ∙ (omega (arith, length-tags x (mergeTags xs (y ∷ ys)), ih (y ∷ ys), length-tags x xs)))
+        (λ e. ap (λ l. length (encodeTags l)) (merge-right x xs y ys e) ∙ (omega (arith, length-tags y (mergeTags (x ∷ xs) ys), go ys ih, length-tags y ys)))
+
+-- a record's tags are no longer than the record
+labels-short : (s : List ℕ) → length (encodeTags (labelsOf s .tags)) ≤ length s
+unfolding labelsOf
+labels-short s = go (readField s) refl
+  where
+    counted : (x s₁ : List ℕ) → length s₁ ≤ length s → length (encodeTags (tagsCounted s₁)) ≤ length s
+    counted x [] h = omega (arith, no-bytes)
+    counted x (n ∷ s₁) h = omega (arith, tags-short n s₁)
+
+    go : (g : Field) → readField s ≡ g → length (encodeTags (onField {A = Labels} g (record { name = []; tags = [] }) (λ x rest. record { name = x; tags = tagsCounted rest }) .tags)) ≤ length s
+    go short h = omega (arith, no-bytes)
+    go (field x s₁) h = counted x s₁ (omega (arith, ap length (field-read s x s₁ h), length-append (encodeField x) s₁))
+
+pub edited-short : (join skip : Names) (many source : List ℕ) → length (encodeTags (editedTags join skip many source)) ≤ length many + length source
+edited-short join skip many source =
+    omega (
+      arith,
+      merge-bytes (stayingTags join skip (labelsOf source .tags) (labelsOf many .tags)) (setFrom join skip (labelsOf source .tags)),
+      chosen-short (stays join skip (labelsOf source .tags)) (stayingTags join skip (labelsOf source .tags)) (staying-sieve join skip (labelsOf source .tags)) (labelsOf many .tags),
+      chosen-short (isSet join skip) (setFrom join skip) (set-sieve join skip) (labelsOf source .tags),
+      labels-short many,
+      labels-short source,
+    )
+
+-- nor is its name
+name-short : (s : List ℕ) → length (labelsOf s .name) ≤ length s
+unfolding labelsOf
+name-short s = go (readField s) refl
+  where
+    go : (g : Field) → readField s ≡ g → length (onField {A = Labels} g (record { name = []; tags = [] }) (λ x rest. record { name = x; tags = tagsCounted rest }) .name) ≤ length s
+    go short h = omega arith
+    go (field x s₁) h = omega (arith, ap length (field-read s x s₁ h), length-append (encodeField x) s₁)
+
+naming-short : (naming : Naming) (many source : List ℕ) → length (nameOf naming many source) ≤ length many + length source
+naming-short Nobody many source = omega arith
+naming-short Many many source = omega (arith, name-short many)
+naming-short Source many source = omega (arith, name-short source)
+
+-- `set_tags_size`
+module _ (naming : Naming) (many source : List ℕ) (short : ShortRecords many source) (n : ℕ) (hn : n ≡ length (encodeField (nameOf naming many source))) where
+  pub name-fit : Fits w64 (n + 1)
+  name-fit = omega (arith, naming-short naming many source, short .manyShort, short .sourceShort)
+
+  module _ (join skip : Names) (t k : ℕ) (ht : t ≡ length (editedTags join skip many source)) (hk : k ≡ length (encodeTags (editedTags join skip many source))) where
+    pub record-fit : Fits w64 (n + 1 + k)
+    record-fit = omega (arith, naming-short naming many source, edited-short join skip many source, short .manyShort, short .sourceShort)
+
+    pub record-sized : Sized (edited join skip naming many source) (record { tags = t; bytes = n + 1 + k })
+    record-sized = record { tags = ht; bytes = omega (arith, length-labels (edited join skip naming many source)) }
+
+-- `set_tags`: a count of at most 32 is a byte
+pub few-fits : (ts : List Tag) (t : ℕ) → length ts ≤ maxTags → t ≡ length ts → Fits w8 t
+few-fits ts t few ht = omega arith

@@ -1,0 +1,143 @@
+#!/usr/bin/env python3
+"""Writes crates/test_binaryop/stdin and stdout: cases, and what docs/01-scope.md says of them, worked out here by the
+host's binary64 and fmod, apart from the program. Run it in the repository."""
+import math
+import random
+import struct
+
+random.seed(7)
+N = 0x7ff8000000000000
+cases, lines = [], []
+
+
+def value(x):
+    return struct.unpack('<d', struct.pack('<Q', x))[0]
+
+
+def bits(x):
+    return N if x != x else struct.unpack('<Q', struct.pack('<d', x))[0]
+
+
+def missing(x):
+    return (x & (2**63 - 1)) > 0x7ff0000000000000
+
+
+def quotient(x, y):
+    if y != 0:
+        return x / y
+    return math.nan if x == 0 else math.copysign(math.inf, math.copysign(1, x) * math.copysign(1, y))
+
+
+def remainder(x, y):
+    return math.nan if math.isinf(x) or y == 0 else math.fmod(x, y)
+
+
+def equal(l, r):
+    return missing(r) if missing(l) else value(l) == value(r)
+
+
+ARITHMETIC = {0: lambda x, y: x + y, 9: lambda x, y: x - y, 7: lambda x, y: x * y, 4: quotient, 6: remainder}
+COMPARISON = {5: equal, 16: lambda l, r: not equal(l, r), 10: lambda l, r: value(l) > value(r),
+              11: lambda l, r: value(l) >= value(r), 14: lambda l, r: value(l) < value(r),
+              15: lambda l, r: value(l) <= value(r)}
+
+
+def scalar(op, as_bool, l, r):
+    if op in ARITHMETIC:
+        return N if missing(l) or missing(r) else bits(ARITHMETIC[op](value(l), value(r)))
+    if op not in COMPARISON:
+        return N
+    holds = COMPARISON[op](l, r)
+    if as_bool:
+        return N if missing(l) else (0x3ff0000000000000 if holds else 0)
+    return l if holds else N
+
+
+def case(what, op, as_bool, l, r, *answers):
+    words = b''.join(struct.pack('<Q', x) for x in l + r)
+    cases.append(struct.pack('<BBBBHH', what, op, as_bool, 0, len(l), len(r)) + words)
+    lines.extend(answers)
+
+
+def line(word, row):
+    return word + ''.join(' %016x' % x for x in row)
+
+
+def operator(op, as_bool, l, r):
+    row = [scalar(op, as_bool, x, y) for x, y in zip(l, r)]
+    case(0, op, as_bool, l, r, line('points', row), line('rows', row))
+
+
+def merge(allowance, d, s):
+    overlaps = sum(not missing(x) and not missing(y) for x, y in zip(d, s))
+    if len(d) != len(s):
+        answer = line('refused 6', d)
+    elif len(d) <= 2 or overlaps > allowance:
+        answer = line('overlapping', d)
+    else:
+        answer = line('done', [x if missing(y) else y for x, y in zip(d, s)])
+    case(5, allowance, 0, d, s, answer)
+
+
+def row(*xs):
+    return [N if x is None else bits(float(x)) for x in xs]
+
+
+# 01's examples
+operator(4, 0, row(10, None, 6), row(2, 1, 3))
+operator(5, 1, [N], row(3))
+operator(16, 1, row(3), [N])
+operator(6, 0, row(-6), row(3))
+operator(6, 0, row(5), [0x7ff0000000000000])
+
+# signed zeros, infinities, subnormals, the ends of the normal numbers, NaN payloads
+special = [0, 1 << 63, bits(1.0), bits(-1.0), bits(3.0), bits(-6.0), bits(0.1), 0x7ff0000000000000, 0xfff0000000000000,
+           1, 0x8000000000000001, 0x000fffffffffffff, 0x0010000000000000, 0x7fefffffffffffff, 0xffefffffffffffff,
+           N, 0xfff8000000000000, 0x7ff8000000000123, 0x7ff0000000000001, 0xfff0000000abcdef]
+pairs = [(x, y) for x in special for y in special]
+for op in list(ARITHMETIC) + list(COMPARISON):
+    for as_bool in (0, 1) if op in COMPARISON else (0,):
+        some = pairs if op in (0, 6) else random.sample(pairs, 60)
+        operator(op, as_bool, [x for x, _ in some], [y for _, y in some])
+for op in (1, 2, 3, 8, 12, 13, 17, 18):
+    operator(op, op % 2, row(1, None, 2), row(3, 4, None))
+
+
+def anything():
+    return random.choice(special) if random.random() < .3 else random.getrandbits(64)
+
+
+left, right = [anything() for _ in range(1024)], [anything() for _ in range(1024)]
+operator(9, 0, left[:300], right[:300])
+operator(7, 0, [], [])
+
+# the set rules against one right row
+some = random.sample(pairs, 150)
+l, r = [x for x, _ in some], [y for _, y in some]
+case(1, 0, 0, l, r, line('if', [N if missing(y) else x for x, y in some]))
+case(2, 0, 0, l, r, line('ifnot', [x if missing(y) else N for x, y in some]))
+case(3, 0, 0, l, r, line('default', [y if missing(x) and not missing(y) else x for x, y in some]))
+
+for readings in ([], [N], [0xfff0000000abcdef, 0x7ff0000000000001], [0x7ff0000000000000], [N, N, 1 << 63], row(None, None, None, 0)):
+    case(4, 0, 0, readings, [], 'only missing' if all(map(missing, readings)) else 'a reading')
+
+# merging: 01's examples, p of 0, 1, 2, 3 and 1,024, unequal lengths, 0 to 4 overlaps under each allowance
+merge(2, row(1, None, 3, None), row(None, 2, None, 4))
+merge(2, row(1, 2, 3), row(9, 8, None))
+merge(2, row(1, 2, 3), row(9, 8, 7))
+merge(2, row(1, None), row(None, 2))
+merge(2, row(1, None, None), row(None, 2, None))
+merge(2, [], [])
+merge(2, row(1), row(2))
+merge(2, row(1, None, 2), row(None, 2))
+merge(2, [], row(1))
+for k in range(5):
+    for allowance in range(5):
+        merge(allowance, row(*[1] * k, *[None] * (6 - k)), row(*[7] * k, None, 8, *[None] * (4 - k)))
+merge(2, [N, 0xfff0000000abcdef, bits(1.0), 1 << 63], [0x7ff8000000000123, N, 0x7ff0000000000001, N])
+merge(2, [x if i % 2 else N for i, x in enumerate(left)], [N if i % 2 else y for i, y in enumerate(right)])
+
+with open('crates/test_binaryop/stdin', 'wb') as f:
+    f.write(b''.join(cases))
+with open('crates/test_binaryop/stdout', 'w') as f:
+    f.write('\n'.join(lines) + '\n')

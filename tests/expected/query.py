@@ -1,0 +1,74 @@
+#!/usr/bin/env python3
+"""Writes crates/test_query/stdin and stdout: queries, and what docs/01-scope.md says of them, worked out here apart
+from the program. Run it in the repository."""
+import struct
+
+COMPARISON = {5, 10, 11, 14, 15, 16}
+LOGICAL = {1, 3, 12, 13, 17, 18}
+REFUSED = {1: 'refused 1 0 0', 2: 'refused 2 0 0'}
+
+
+def list_at(b, p):
+    """The labels of the list at p and where it ends, or None."""
+    if p >= len(b) or b[p] > 32:
+        return None
+    names, count, p = [], b[p], p + 1
+    for _ in range(count):
+        if p >= len(b):
+            return None
+        size, p = b[p], p + 1
+        if size == 0 or p + size > len(b):
+            return None
+        names.append(b[p:p + size])
+        p += size
+    return names, p
+
+
+def taken(b):
+    if not b:
+        return REFUSED[2]
+    if b[0] > 18 or b[0] in (2, 8):
+        return REFUSED[1]
+    if len(b) < 4 or b[1] > 2 or b[2] > 3 or b[3] > 3:
+        return REFUSED[2]
+    first = list_at(b, 4)
+    second = first and list_at(b, first[1])
+    if not second or second[1] != len(b):
+        return REFUSED[2]
+    if b[1] == 0 and first[0] or b[2] in (0, 3) and second[0]:
+        return REFUSED[2]
+    keep, as_bool = b[3] in (1, 3), b[3] in (2, 3)
+    resets = not keep and (as_bool if b[0] in COMPARISON else b[0] not in LOGICAL)
+    words = [b[0] in COMPARISON, b[0] in LOGICAL, ('all', 'on', 'ignoring')[b[1]], ('one', 'left', 'right', 'one')[b[2]],
+             keep, as_bool, resets, first[1]]
+    return ' '.join(['asked'] + [w if isinstance(w, str) else str(int(w)) for w in words])
+
+
+def names(*labels):
+    return bytes([len(labels)]) + b''.join(bytes([len(x)]) + x for x in labels)
+
+
+good = [
+    bytes([0, 0, 0, 0]) + names() + names(),
+    bytes([4, 1, 1, 1]) + names(b'press', b'shift') + names(b'form', b'__name__'),
+    bytes([10, 2, 2, 3]) + names(b'press') + names(b'*'),
+    bytes([18, 1, 0, 2]) + names(b'a', b'a') + names(),
+]
+cases = [bytes([op, 0, 0, 0]) + names() + names() for op in range(21)]
+cases += [b'', bytes([255])] + [bytes([op]) for op in (0, 2, 8, 19)]
+cases += [bytes([op, 0, 0, flags]) + names() + names() for op in (5, 9, 12) for flags in range(5)]
+cases += [bytes([7, m, j, 0]) + ms + js for m in range(4) for j in range(5) for ms in (names(), names(b'a'))
+          for js in (names(), names(b'*'), names(b'*', b'b'))]
+for g in good:  # every prefix, bytes left over, single damaged bytes
+    cases += [g[:k] for k in range(len(g) + 1)] + [g + b'\0', g + b'\1\1a']
+    cases += [g[:k] + bytes([(g[k] + d) % 256]) + g[k + 1:] for k in range(len(g)) for d in (1, 0x80, 0xff)]
+many = [b'%02d' % i for i in range(33)]
+on = bytes([0, 1, 1, 0])
+cases += [on + names(*many[:32]) + names(*many[:32]), on + names(*many) + names(), on + names() + names(*many),
+          on + names(b'x' * 255) + names(b'y' * 255), on + names(b'x' * 255)[:-1],
+          on + names(b'') + names(), on + names() + names(b'')]
+
+with open('crates/test_query/stdin', 'wb') as f:
+    f.write(b''.join(struct.pack('<H', len(q)) + q for q in cases))
+with open('crates/test_query/stdout', 'w') as f:
+    f.write(''.join(taken(q) + '\n' for q in cases))
