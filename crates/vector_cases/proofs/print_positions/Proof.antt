@@ -1,10 +1,8 @@
+-- `vector_cases::print_positions` meets its contract. Assumes nothing.
 use borrow.Author.Needs.{needs}
 use Prim.Native.Nat.{_≤_, _-_}
 use Rattle.vector_cases.proofs.print_positions.Statement.{statement}
 use Rattle.vector_cases.proofs.print_positions.Tie as tie
-use Rattle.vector_cases.proofs.print_positions.Reads as reads
-use Rattle.vector_cases.proofs.print_positions.Lts as lts
-use Rattle.vector_cases.proofs.print_position.Reads as print-position-reads
 
 abbrev Inv-loop : tie.InvT-loop
 Inv-loop at i₀ i = i ≤ 513
@@ -12,35 +10,27 @@ Inv-loop at i₀ i = i ≤ 513
 abbrev μ-loop : tie.MeasureT-loop
 μ-loop at i₀ i = 513 - i
 
--- src/main.rt:49:5
 loop-holds : tie.Need-loop-holds Inv-loop μ-loop
 loop-holds c = search needs
 
--- src/main.rt:50:24
 mul-print-position : tie.Need-mul-print-position Inv-loop μ-loop
 mul-print-position c = search needs
 
--- src/main.rt:50:24
 element-copy-out-print-position : tie.Need-element-copy-out-print-position Inv-loop μ-loop
 element-copy-out-print-position c = search needs
 
--- src/main.rt:50:9
 print-position-requires : tie.Need-print-position-requires Inv-loop μ-loop
 print-position-requires c κs = search needs
 
--- src/main.rt:51:9
 add-i : tie.Need-add-i Inv-loop μ-loop
 add-i c = search needs
 
--- src/main.rt:49:5
 loop-less : tie.Need-loop-less Inv-loop μ-loop
 loop-less c = search needs
 
--- src/main.rt:49:5
 loop-again : tie.Need-loop-again Inv-loop μ-loop
 loop-again c = search needs
 
--- src/main.rt:47:1
 returns : tie.Need-returns Inv-loop μ-loop
 returns c = search needs
 

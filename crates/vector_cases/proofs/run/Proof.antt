@@ -1,12 +1,9 @@
+-- `vector_cases::run` meets its contract. Assumes nothing.
 use borrow.Author.Needs.{needs}
 use Prim.Native.Nat.{_≤_, _+_, _-_}
 use lib.ListN.{length}
 use Rattle.vector_cases.proofs.run.Statement.{statement}
 use Rattle.vector_cases.proofs.run.Tie as tie
-use Rattle.vector_cases.proofs.run.Reads as reads
-use Rattle.vector_cases.proofs.run.Lts as lts
-use Rattle.vector_cases.proofs.number_at.Reads as number-at-reads
-use Rattle.vector_cases.proofs.take.Reads as take-reads
 
 abbrev Inv-loop : tie.InvT-loop
 Inv-loop s p₀ p = p ≤ length s + 1
@@ -14,67 +11,51 @@ Inv-loop s p₀ p = p ≤ length s + 1
 abbrev μ-loop : tie.MeasureT-loop
 μ-loop s p₀ p = length s + 1 - p
 
--- src/main.rt:89:5
 loop-holds : tie.Need-loop-holds Inv-loop μ-loop
 loop-holds c = search needs
 
--- src/main.rt:90:21
 add-start : tie.Need-add-start Inv-loop μ-loop
 add-start c = search needs
 
--- src/main.rt:91:13
 number-at-requires : tie.Need-number-at-requires Inv-loop μ-loop
 number-at-requires c κs = search needs
 
--- src/main.rt:93:13
 returns : tie.Need-returns Inv-loop μ-loop
 returns c = search needs
 
--- src/main.rt:95:12
 sub-if2 : tie.Need-sub-if2 Inv-loop μ-loop
 sub-if2 c = search needs
 
--- src/main.rt:96:13
 returns-2 : tie.Need-returns-2 Inv-loop μ-loop
 returns-2 c = search needs
 
--- src/main.rt:98:19
 add-end : tie.Need-add-end Inv-loop μ-loop
 add-end c = search needs
 
--- src/main.rt:99:14
 sub-take : tie.Need-sub-take Inv-loop μ-loop
 sub-take c = search needs
 
--- src/main.rt:99:14
 part-take-start : tie.Need-part-take-start Inv-loop μ-loop
 part-take-start c = search needs
 
--- src/main.rt:99:14
 part-take-end : tie.Need-part-take-end Inv-loop μ-loop
 part-take-end c = search needs
 
--- src/main.rt:99:30
 number-at-requires-2 : tie.Need-number-at-requires-2 Inv-loop μ-loop
 number-at-requires-2 c κs = search needs
 
--- src/main.rt:99:9
 take-requires : tie.Need-take-requires Inv-loop μ-loop
 take-requires c κs = search needs
 
--- src/main.rt:100:13
 add-p : tie.Need-add-p Inv-loop μ-loop
 add-p c = search needs
 
--- src/main.rt:89:5
 loop-less : tie.Need-loop-less Inv-loop μ-loop
 loop-less c = search needs
 
--- src/main.rt:89:5
 loop-again : tie.Need-loop-again Inv-loop μ-loop
 loop-again c = search needs
 
--- src/main.rt:87:1
 returns-3 : tie.Need-returns-3 Inv-loop μ-loop
 returns-3 c = search needs
 
