@@ -1,0 +1,261 @@
+-- `plan_leads`, `plan_many` and `plan_join`: what is planned so far, and what is left. Assumes nothing.
+use Prim.Native.Nat.{ℕ, zero, suc, _+_, _*_, _≤_, _<_}
+use mathlib.Core.Path.{_≡_, refl, sym, ap, _∙_}
+use mathlib.Core.Bool.{Bool, true, false, cond}
+use mathlib.Core.Option.{Option, none, some}
+use mathlib.Core.List.{List, [], _∷_, _++_, append-assoc, append-nil}
+use native.Mathlib.Numerals.{add-one}
+use native.Mathlib.Omega.{arith}
+use lib.Dec.{eqb}
+use lib.ListN.{length, getD, take, drop, set, length-append, drop-of-length-le}
+use lib.Seq.{drop-cons, sets, length-sets, length-take-le}
+use borrow.Author.Tests.{eq-eqb, ne-eqb}
+use Rattle.model.specs.Limits.{maxSeries}
+use Rattle.model.specs.Labels.{Labels, WellFormed}
+use Rattle.model.specs.Edits.{Names}
+use Rattle.operator.specs.declared.Operator.the-variants.{Add}
+use Rattle.model.specs.Query.{Query, on, oneToOne, Side}
+use Rattle.model.specs.Row.{twoOverlaps}
+use Rattle.semantics.specs.Events.{Duplicate}
+use Rattle.semantics.specs.Rules.{other}
+use Rattle.semantics.specs.Binop.{allowedOverlaps}
+use Rattle.plan.specs.Keys.{dropped}
+use Rattle.plan.specs.Pairs.{noLabels}
+use Rattle.plan.specs.Conclude.{orElse}
+use Rattle.plan.specs.Joins.{JoinSides, leadsOf, leadsClash, leadRows, joinClash, joinRowsFrom}
+use Rattle.metric_name.specs.Lenient.{labelsOf}
+use Rattle.timeseries.specs.Sides.{recordAt, labelsIn}
+use Rattle.join_leads.specs.declared.Checked.{Checked}
+use Rattle.join_leads.specs.declared.Checked.the-variants as C
+use Rattle.join_leads.specs.Lent.{Lent, ListedBy}
+use Rattle.join_leads.specs.Marks.{Marked}
+use Rattle.join_leads.specs.Checks.{ClashOf, CodesFit, Noted}
+use Rattle.join_leads.proofs.Alike.{leads-among-long}
+use Rattle.join_leads.proofs.Marking.{labels-long, labels-here}
+use Rattle.joins.specs.declared.Plan.{Plan}
+use Rattle.joins.specs.declared.Plan.the-variants.{Rows, Failed}
+use Rattle.joins.specs.Sides.{OneLent, sidesOf}
+use Rattle.joins.specs.Plans.{planClash, PlanNotes, LeadsPlanned, ManyPlanned, PlannedBy, Planned}
+
+-- `plan_leads`
+
+module _ (m n p : ℕ) (rows leads before : List ℕ) (x : Checked) (h : ClashOf twoOverlaps p rows leads x) where
+  pub leads-planned : x ≡ C.Done → (after : List ℕ) (c : ℕ) → Noted (leadRows m 0 leads) before n after c → LeadsPlanned m n p rows leads before after (Rows c)
+  leads-planned e after c k = record {
+    clash = λ side. h .each side ∙ rw e;
+    notes = record { noted = λ d f. (let z : c ≡ d = cc in rw (← z) k); long = ap length (k .stored) ∙ length-sets before n (leadRows m 0 leads) };
+  }
+
+  pub leads-failed : (k i : ℕ) → x ≡ C.Failed k i → LeadsPlanned m n p rows leads before before (Failed k i)
+  leads-failed k i e = record { clash = λ side. h .each side ∙ rw e; notes = record { noted = λ d f. absurd (let z : _≡_ {A = ℕ} 0 1 = cc in omega arith); long = refl } }
+
+-- a query with two lists
+someQuery : Names → Names → Query
+someQuery join skip = record { operator = Add; matching = on; join = oneToOne; keepNames = false; bool = false; matchingList = skip; joinList = join }
+
+some-listed : (join skip : Names) → ListedBy (someQuery join skip) join skip
+some-listed join skip = unfold someQuery in record { joins = refl; skips = refl }
+
+-- `plan_marked` and `plan_many`
+
+module _ (p : ℕ) (array at keys rows : List ℕ) (one : OneLent p array at keys rows) where
+  pub one-lent : Lent array at keys
+  one-lent = one .lent
+
+  module _ (join skip : Names) (rec : List ℕ) (k : ℕ) (leads : List ℕ) (marked : Marked join skip rec k array at keys leads) where
+    leads-long : length leads ≡ length keys
+    leads-long =
+        ap length (marked .each (someQuery join skip) (some-listed join skip))
+        ∙ leads-among-long (someQuery join skip) (labelsOf rec) k keys (labelsIn array at) keys (labelsIn array at) (sym (labels-long array at keys (one .lent)))
+
+    pub leads-fit : (m n : ℕ) → CodesFit m n keys → CodesFit m n leads
+    leads-fit m n f = record { place = f .place; before = f .before; few = omega (arith, f .few, leads-long) }
+
+    pub leads-held : length leads * p ≤ length rows
+    leads-held = rw (leads-long, one .held) (omega arith)
+
+  pub leads-narrow : p ≤ 1024
+  leads-narrow = one .narrow
+
+module _ (join skip : Names) (rec : List ℕ) (k : ℕ) (array at keys leads : List ℕ) (marked : Marked join skip rec k array at keys leads) where
+  pub many-planned : (m n p : ℕ) (rows before after : List ℕ) (r : Plan) → LeadsPlanned m n p rows leads before after r → ManyPlanned join skip rec m k n p array at keys rows before after r
+  many-planned m n p rows before after r h = record { each = λ q g. rw (← marked .each q g) h }
+
+-- the front of an array as a row of its own
+pub front-long : (p : ℕ) (l : List ℕ) → p ≤ length l → p ≡ length (take p l)
+front-long p l h = sym (length-take-le p l h)
+
+-- `plan_join`
+
+pub two-overlaps : (q : Query) → allowedOverlaps q ≡ twoOverlaps
+unfolding allowedOverlaps
+two-overlaps q = refl
+
+sets-append : (l : List ℕ) (i : ℕ) (xs ys : List ℕ) → sets l i (xs ++ ys) ≡ sets (sets l i xs) (i + length xs) ys
+sets-append l i [] ys = let e : i + 0 ≡ i = omega arith in rw e
+sets-append l i (x ∷ xs) ys = let e : i + suc (length xs) ≡ suc i + length xs = omega arith in rw e (sets-append (set l i x) (suc i) xs ys)
+
+lead-rows-few : (m o : ℕ) (leads : List ℕ) → length (leadRows m o leads) ≤ length leads
+unfolding leadRows
+lead-rows-few m o [] = omega arith
+lead-rows-few m o (x ∷ leads) = go (eqb x o) (lead-rows-few m (suc o) leads)
+  where
+    go : (t : Bool) → length (leadRows m (suc o) leads) ≤ length leads → length (cond t ((m * 512 + o) ∷ leadRows m (suc o) leads) (leadRows m (suc o) leads)) ≤ suc (length leads)
+    go true h = omega (arith, h)
+    go false h = omega (arith, h)
+
+-- under one query: the many-side places before i are planned
+record PlanRest (q : Query) (many : Side) (s : JoinSides) (ks : List ℕ) (ls : List Labels) (before list : List ℕ) (n i : ℕ) : Type 0 where
+  clash : joinClash q many s ks ls ≡ joinClash q many s (drop i ks) (drop i ls)
+  sofar : List ℕ
+  rows : sofar ++ joinRowsFrom q s i (drop i ks) (drop i ls) ≡ joinRowsFrom q s 0 ks ls
+  stored : list ≡ sets before 0 sofar
+  count : n ≡ length sofar
+
+module _ (q : Query) (many : Side) (s : JoinSides) (ks : List ℕ) (ls : List Labels) (before : List ℕ) where
+  rest-starts : PlanRest q many s ks ls before before 0 0
+  rest-starts = record { clash = refl; sofar = []; rows = refl; stored = refl; count = refl }
+
+  clash-test : (k : ℕ) (xs : List ℕ) (l : Labels) (ms : List Labels) → joinClash q many s (k ∷ xs) (l ∷ ms)
+      ≡ orElse (cond (eqb k dropped) none (leadsClash (allowedOverlaps q) (s .points) (s .oneRows) (other many) (leadsOf q l k (s .oneKeys) (s .oneLabels)) 0 (leadsOf q l k (s .oneKeys) (s .oneLabels)))) (joinClash q many s xs ms)
+  unfolding joinClash
+  clash-test k xs l ms = refl
+
+  rows-test : (m k : ℕ) (xs : List ℕ) (l : Labels) (ms : List Labels) → joinRowsFrom q s m (k ∷ xs) (l ∷ ms) ≡ cond (eqb k dropped) [] (leadRows m 0 (leadsOf q l k (s .oneKeys) (s .oneLabels))) ++ joinRowsFrom q s (suc m) xs ms
+  unfolding joinRowsFrom
+  rows-test m k xs l ms = refl
+
+  clash-none : (ms : List Labels) → joinClash q many s [] ms ≡ none
+  unfolding joinClash
+  clash-none ms = refl
+
+  rows-none : (m : ℕ) (ms : List Labels) → joinRowsFrom q s m [] ms ≡ []
+  unfolding joinRowsFrom
+  rows-none m ms = refl
+
+  module _ (list : List ℕ) (n i : ℕ) (t : PlanRest q many s ks ls before list n i) where
+    module _ (h : i < length ks) (g : i < length ls) (k : ℕ) (l : Labels) (hk : k ≡ getD ks i 0) (hl : getD ls i noLabels ≡ l) where
+      abbrev leads : List ℕ
+      leads = leadsOf q l k (s .oneKeys) (s .oneLabels)
+
+      clash-step : joinClash q many s (drop i ks) (drop i ls) ≡ orElse (cond (eqb k dropped) none (leadsClash twoOverlaps (s .points) (s .oneRows) (other many) leads 0 leads)) (joinClash q many s (drop (i + 1) ks) (drop (i + 1) ls))
+      clash-step = rw (drop-cons ks i 0 h, drop-cons ls i noLabels g, ← hk, hl, add-one i, ← two-overlaps q) (clash-test k (drop (suc i) ks) l (drop (suc i) ls))
+
+      rows-step : joinRowsFrom q s i (drop i ks) (drop i ls) ≡ cond (eqb k dropped) [] (leadRows i 0 leads) ++ joinRowsFrom q s (i + 1) (drop (i + 1) ks) (drop (i + 1) ls)
+      rows-step = rw (drop-cons ks i 0 h, drop-cons ls i noLabels g, ← hk, hl, add-one i) (rows-test i k (drop (suc i) ks) l (drop (suc i) ls))
+
+      rest-skip : k ≡ dropped → PlanRest q many s ks ls before list n (i + 1)
+      rest-skip e = record {
+        clash = t .clash ∙ clash-step ∙ rw (eq-eqb k dropped e);
+        sofar = t .sofar;
+        rows = ap (λ (x : List ℕ). t .sofar ++ x) (sym (rows-step ∙ rw (eq-eqb k dropped e))) ∙ t .rows;
+        stored = t .stored;
+        count = t .count;
+      }
+
+      module _ (f : k ≡ dropped → ⊥) where
+        rest-rows : leadsClash twoOverlaps (s .points) (s .oneRows) (other many) leads 0 leads ≡ none → (after : List ℕ) (c : ℕ) → Noted (leadRows i 0 leads) list n after c → PlanRest q many s ks ls before after c (i + 1)
+        rest-rows e after c w = record {
+          clash = t .clash ∙ clash-step ∙ rw (ne-eqb k dropped f, e);
+          sofar = t .sofar ++ leadRows i 0 leads;
+          rows = append-assoc (t .sofar) (leadRows i 0 leads) (joinRowsFrom q s (i + 1) (drop (i + 1) ks) (drop (i + 1) ls))
+              ∙ ap (λ (x : List ℕ). t .sofar ++ x) (sym (rows-step ∙ rw (ne-eqb k dropped f))) ∙ t .rows;
+          stored = (let z : 0 + length (t .sofar) ≡ length (t .sofar) = omega arith in w .stored ∙ rw (t .stored, t .count, ← z) (sym (sets-append before 0 (t .sofar) (leadRows i 0 leads))));
+          count = w .count ∙ rw (t .count) (sym (length-append (t .sofar) (leadRows i 0 leads)));
+        }
+
+        rest-failed : (d : Duplicate) → leadsClash twoOverlaps (s .points) (s .oneRows) (other many) leads 0 leads ≡ some d → joinClash q many s ks ls ≡ some d
+        rest-failed d e = t .clash ∙ clash-step ∙ rw (ne-eqb k dropped f, e)
+
+    module _ (h : length ks ≤ i) where
+      end-clash : joinClash q many s ks ls ≡ none
+      end-clash = t .clash ∙ rw (drop-of-length-le ks h) (clash-none (drop i ls))
+
+      end-rows : t .sofar ≡ joinRowsFrom q s 0 ks ls
+      end-rows = sym (append-nil (t .sofar)) ∙ ap (λ (x : List ℕ). t .sofar ++ x) (sym (rw (drop-of-length-le ks h) (rows-none i (drop i ls)))) ∙ t .rows
+
+      rest-noted : Noted (joinRowsFrom q s 0 ks ls) before 0 list n
+      rest-noted = record { stored = t .stored ∙ ap (sets before 0) end-rows; count = t .count ∙ ap length end-rows ∙ omega arith }
+
+pub record Planning (join skip : Names) (p : ℕ) (ma mt mk a t k r before list : List ℕ) (n i : ℕ) : Type 0 where
+  pub within : i ≤ length mk
+  pub small : n ≤ i * 512
+  pub long : length list ≡ length before
+  each : (q : Query) → ListedBy q join skip → (many : Side) (mr : List ℕ) → PlanRest q many (sidesOf p ma mt mk mr a t k r) mk (labelsIn ma mt) before list n i
+
+module _ (join skip : Names) (p : ℕ) (ma mt mk a t k r before : List ℕ) where
+  pub planning-starts : Planning join skip p ma mt mk a t k r before before 0 0
+  planning-starts = record { within = omega arith; small = omega arith; long = refl; each = λ q g many mr. rest-starts q many (sidesOf p ma mt mk mr a t k r) mk (labelsIn ma mt) before }
+
+  module _ (many-lent : Lent ma mt mk) (one : OneLent p a t k r) (list : List ℕ) (n i : ℕ) (w : Planning join skip p ma mt mk a t k r before list n i) where
+    module _ (h : i < length mk) where
+      pub place-fits : CodesFit i n k
+      place-fits = record { place = omega (arith, h, many-lent .few); before = w .small; few = one .lent .few }
+
+      pub record-inside : i + 1 < length mt
+      record-inside = omega (arith, many-lent .count)
+
+      pub record-formed : (x : List ℕ) → x ≡ recordAt ma mt i → WellFormed (labelsOf x)
+      record-formed x e = rw e (many-lent .formed i h)
+
+      inside : i < length (labelsIn ma mt)
+      inside = omega (arith, h, labels-long ma mt mk many-lent)
+
+      module _ (key : ℕ) (hk : key ≡ getD mk i 0) where
+        pub planning-skip : key ≡ dropped → Planning join skip p ma mt mk a t k r before list n (i + 1)
+        planning-skip e = record {
+          within = omega arith;
+          small = omega (arith, w .small);
+          long = w .long;
+          each = λ q g many mr. rest-skip q many (sidesOf p ma mt mk mr a t k r) mk (labelsIn ma mt) before list n i (w .each q g many mr) h inside key (labelsOf (recordAt ma mt i)) hk (labels-here ma mt mk many-lent i h) e;
+        }
+
+        module _ (f : key ≡ dropped → ⊥) (x : List ℕ) (hx : x ≡ recordAt ma mt i) (after : List ℕ) (v : Plan) (planned : ManyPlanned join skip x i key n p a t k r list after v) where
+          here : getD (labelsIn ma mt) i noLabels ≡ labelsOf x
+          here = labels-here ma mt mk many-lent i h ∙ ap labelsOf (sym hx)
+
+          few-rows : (c : ℕ) → v ≡ Rows c → c ≤ n + length k
+          few-rows c e =
+              let q = someQuery join skip in
+              let l = planned .each q (some-listed join skip) in
+              let all = leadsOf q (labelsOf x) key k (labelsIn a t) in
+              let len = leads-among-long q (labelsOf x) key k (labelsIn a t) k (labelsIn a t) (sym (labels-long a t k (one .lent))) in
+              omega (arith, l .notes .noted c e .count, lead-rows-few i 0 all, len)
+
+          pub after-long : length after ≡ length before
+          after-long = planned .each (someQuery join skip) (some-listed join skip) .notes .long ∙ w .long
+
+          pub planning-rows : (c : ℕ) → v ≡ Rows c → Planning join skip p ma mt mk a t k r before after c (i + 1)
+          planning-rows c e = record {
+            within = omega arith;
+            small = omega (arith, few-rows c e, w .small, one .lent .few);
+            long = after-long;
+            each = λ q g many mr.
+                let l = planned .each q g in
+                rest-rows q many (sidesOf p ma mt mk mr a t k r) mk (labelsIn ma mt) before list n i (w .each q g many mr) h inside key (labelsOf x) hk here f
+                (l .clash (other many) ∙ rw e) after c (l .notes .noted c e);
+          }
+
+          pub planning-failed : (kept failed : ℕ) → v ≡ Failed kept failed → Planned join skip p ma mt mk a t k r before after (Failed kept failed)
+          planning-failed kept failed e = record {
+            each = λ q g many mr.
+                let l = planned .each q g in
+                record {
+                  clash = rest-failed q many (sidesOf p ma mt mk mr a t k r) mk (labelsIn ma mt) before list n i (w .each q g many mr) h inside key (labelsOf x) hk here f
+                      (record { kept = record { side = other many; number = kept }; failed = record { side = other many; number = failed } }) (l .clash (other many) ∙ rw e);
+                  notes = record { noted = λ d z. absurd (let y : _≡_ {A = ℕ} 0 1 = cc in omega arith); long = after-long };
+                };
+          }
+
+    pub list-long : length list ≡ length before
+    list-long = w .long
+
+    pub planning-ends : length mk ≤ i → Planned join skip p ma mt mk a t k r before list (Rows n)
+    planning-ends h = record {
+      each = λ q g many mr.
+          let s = sidesOf p ma mt mk mr a t k r in
+          record {
+            clash = end-clash q many s mk (labelsIn ma mt) before list n i (w .each q g many mr) h;
+            notes = record { noted = λ c e. (let z : n ≡ c = cc in rw (← z) (rest-noted q many s mk (labelsIn ma mt) before list n i (w .each q g many mr) h)); long = w .long };
+          };
+    }
