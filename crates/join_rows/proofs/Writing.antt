@@ -83,7 +83,9 @@ module _ (join skip : Names) (ma mt a t : List ℕ) (x : ℕ) (rec : List ℕ) (
   pub room-edited : (from n : ℕ) → from + length (encode (rowLabels join skip naming ma mt a t x)) ≤ n → from + length (encode (edited join skip naming rec src)) ≤ n
   room-edited from n h = rw labels-are at h
 
-  pub row-written : (w : Work) → naming ≡ w .naming → (p : ℕ) (mk mr k r before : List ℕ) (from : ℕ) (labels out : List ℕ) (n : ℕ) (many : List ℕ) → many ≡ take p (drop (x / 512 * p) mr)
-      → Put before from (encode (edited join skip naming rec src)) labels n → RecordRow w join skip rec (getD mk (x / 512) 0) many a t k r (x % 512) p out
-      → RowWritten w join skip p ma mt mk mr a t k r x before from labels out n
-  row-written w e p mk mr k r before from labels out n many hm put made = record { put = rw (← e, labels-are) put; made = rw (← hm, ← hr) made }
+pub row-written : (w : Work) (join skip : Names) (ma mt a t : List ℕ) (x : ℕ) (rec : List ℕ) → rec ≡ recordAt ma mt (x / 512) → (src : List ℕ) → src ≡ recordAt a t (x % 512)
+    → (p : ℕ) (mk mr k r before : List ℕ) (from : ℕ) (labels out : List ℕ) (n : ℕ) (many : List ℕ) → many ≡ take p (drop (x / 512 * p) mr)
+    → Put before from (encode (edited join skip (w .naming) rec src)) labels n → RecordRow w join skip rec (getD mk (x / 512) 0) many a t k r (x % 512) p out
+    → RowWritten w join skip p ma mt mk mr a t k r x before from labels out n
+row-written w join skip ma mt a t x rec hr src hs p mk mr k r before from labels out n many hm put made =
+    record { put = rw (labels-are join skip ma mt a t x rec hr src hs (w .naming)) put; made = rw (← hm, ← hr) made }
