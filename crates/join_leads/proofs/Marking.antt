@@ -12,7 +12,8 @@ use borrow.Author.Tests.{eqb-true, eqb-false, eq-eqb, ne-eqb}
 use Rattle.model.specs.Lists.{cases}
 use Rattle.model.specs.Labels.{Labels, WellFormed, sameTags}
 use Rattle.model.specs.Edits.{Names}
-use Rattle.model.specs.Query.{Query}
+use Rattle.operator.specs.declared.Operator.the-variants.{Add}
+use Rattle.model.specs.Query.{Query, on, oneToOne}
 use Rattle.semantics.specs.Binop.{joinedLabels}
 use Rattle.plan.specs.Keys.{dropped}
 use Rattle.plan.specs.Pairs.{noLabels}
@@ -256,3 +257,24 @@ module _ {join skip : Names} {many : List ℕ} {k : ℕ} {array at keys leads ha
 
 pub hash-here : (join skip : Names) (many array at : List ℕ) (o h : ℕ) (x : List ℕ) → x ≡ recordAt array at o → h ≡ hashOf (editedTags join skip many x) → h ≡ editedHash join skip many array at o
 hash-here join skip many array at o h x e f = f ∙ ap (λ (y : List ℕ). hashOf (editedTags join skip many y)) e
+
+-- the leaders are as many as the keys: under any query with the lists, as under this
+
+someQuery : Names → Names → Query
+someQuery join skip = record { operator = Add; matching = on; join = oneToOne; keepNames = false; bool = false; matchingList = skip; joinList = join }
+
+some-listed : (join skip : Names) → ListedBy (someQuery join skip) join skip
+some-listed join skip = unfold someQuery in record { joins = refl; skips = refl }
+
+-- what holds under each query with the lists holds under some
+pub record Someone (join skip : Names) : Type 0 where
+  pub q : Query
+  pub lists : ListedBy q join skip
+
+pub someone : (join skip : Names) → Someone join skip
+someone join skip = record { q = someQuery join skip; lists = some-listed join skip }
+
+pub marked-long : (join skip : Names) (rec : List ℕ) (k : ℕ) (array at keys leads : List ℕ) → Marked join skip rec k array at keys leads → Lent array at keys → length leads ≡ length keys
+marked-long join skip rec k array at keys leads marked lent =
+    let s = someone join skip in
+    ap length (marked .each (s .q) (s .lists)) ∙ leads-among-long (s .q) (labelsOf rec) k keys (labelsIn array at) keys (labelsIn array at) (sym (labels-long array at keys lent))

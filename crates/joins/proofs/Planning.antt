@@ -13,8 +13,7 @@ use borrow.Author.Tests.{eq-eqb, ne-eqb}
 use Rattle.model.specs.Limits.{maxSeries}
 use Rattle.model.specs.Labels.{Labels, WellFormed}
 use Rattle.model.specs.Edits.{Names}
-use Rattle.operator.specs.declared.Operator.the-variants.{Add}
-use Rattle.model.specs.Query.{Query, on, oneToOne, Side}
+use Rattle.model.specs.Query.{Query, Side}
 use Rattle.model.specs.Row.{twoOverlaps}
 use Rattle.semantics.specs.Events.{Duplicate}
 use Rattle.semantics.specs.Rules.{other}
@@ -31,10 +30,10 @@ use Rattle.join_leads.specs.Lent.{Lent, ListedBy}
 use Rattle.join_leads.specs.Marks.{Marked}
 use Rattle.join_leads.specs.Checks.{ClashOf, CodesFit, Noted}
 use Rattle.join_leads.proofs.Alike.{leads-among-long}
-use Rattle.join_leads.proofs.Marking.{labels-long, labels-here}
+use Rattle.join_leads.proofs.Marking.{labels-long, labels-here, someone, marked-long}
 use Rattle.joins.specs.declared.Plan.{Plan}
 use Rattle.joins.specs.declared.Plan.the-variants.{Rows, Failed}
-use Rattle.joins.specs.Sides.{OneLent, sidesOf}
+use Rattle.join_rows.specs.Sides.{OneLent, sidesOf}
 use Rattle.joins.specs.Plans.{planClash, PlanNotes, LeadsPlanned, ManyPlanned, PlannedBy, Planned}
 
 -- `plan_leads`
@@ -49,13 +48,6 @@ module _ (m n p : ℕ) (rows leads before : List ℕ) (x : Checked) (h : ClashOf
   pub leads-failed : (k i : ℕ) → x ≡ C.Failed k i → LeadsPlanned m n p rows leads before before (Failed k i)
   leads-failed k i e = record { clash = λ side. h .each side ∙ rw e; notes = record { noted = λ d f. absurd (let z : _≡_ {A = ℕ} 0 1 = cc in omega arith); long = refl } }
 
--- a query with two lists
-someQuery : Names → Names → Query
-someQuery join skip = record { operator = Add; matching = on; join = oneToOne; keepNames = false; bool = false; matchingList = skip; joinList = join }
-
-some-listed : (join skip : Names) → ListedBy (someQuery join skip) join skip
-some-listed join skip = unfold someQuery in record { joins = refl; skips = refl }
-
 -- `plan_marked` and `plan_many`
 
 module _ (p : ℕ) (array at keys rows : List ℕ) (one : OneLent p array at keys rows) where
@@ -64,9 +56,7 @@ module _ (p : ℕ) (array at keys rows : List ℕ) (one : OneLent p array at key
 
   module _ (join skip : Names) (rec : List ℕ) (k : ℕ) (leads : List ℕ) (marked : Marked join skip rec k array at keys leads) where
     leads-long : length leads ≡ length keys
-    leads-long =
-        ap length (marked .each (someQuery join skip) (some-listed join skip))
-        ∙ leads-among-long (someQuery join skip) (labelsOf rec) k keys (labelsIn array at) keys (labelsIn array at) (sym (labels-long array at keys (one .lent)))
+    leads-long = marked-long join skip rec k array at keys leads marked (one .lent)
 
     pub leads-fit : (m n : ℕ) → CodesFit m n keys → CodesFit m n leads
     leads-fit m n f = record { place = f .place; before = f .before; few = omega (arith, f .few, leads-long) }
@@ -216,14 +206,14 @@ module _ (join skip : Names) (p : ℕ) (ma mt mk a t k r before : List ℕ) wher
 
           few-rows : (c : ℕ) → v ≡ Rows c → c ≤ n + length k
           few-rows c e =
-              let q = someQuery join skip in
-              let l = planned .each q (some-listed join skip) in
+              let q = someone join skip .q in
+              let l = planned .each q (someone join skip .lists) in
               let all = leadsOf q (labelsOf x) key k (labelsIn a t) in
               let len = leads-among-long q (labelsOf x) key k (labelsIn a t) k (labelsIn a t) (sym (labels-long a t k (one .lent))) in
               omega (arith, l .notes .noted c e .count, lead-rows-few i 0 all, len)
 
           pub after-long : length after ≡ length before
-          after-long = planned .each (someQuery join skip) (some-listed join skip) .notes .long ∙ w .long
+          after-long = planned .each (someone join skip .q) (someone join skip .lists) .notes .long ∙ w .long
 
           pub planning-rows : (c : ℕ) → v ≡ Rows c → Planning join skip p ma mt mk a t k r before after c (i + 1)
           planning-rows c e = record {

@@ -16,7 +16,7 @@ use Rattle.join_leads.specs.Lent.{ListedBy}
 use Rattle.join_leads.specs.Checks.{Noted}
 use Rattle.joins.specs.declared.Plan.{Plan}
 use Rattle.joins.specs.declared.Plan.the-variants.{Rows, Failed}
-use Rattle.joins.specs.Sides.{sidesOf}
+use Rattle.join_rows.specs.Sides.{sidesOf}
 
 -- the clash that a plan tells, on the one side
 abbrev pub planClash : Side → Plan → Option Duplicate

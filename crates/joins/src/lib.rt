@@ -9,11 +9,8 @@ ghost use Rattle.metric_name.specs.Lenient.{labelsOf};
 ghost use Rattle.join_leads.specs.Lent.{Lent};
 ghost use Rattle.join_leads.specs.Marks.{Marked};
 ghost use Rattle.join_leads.specs.Checks.{CodesFit};
-ghost use Rattle.joins.specs.Sides.{JoinLent, OneLent};
+ghost use Rattle.join_rows.specs.Sides.{JoinLent, OneLent};
 ghost use Rattle.joins.specs.Plans.{LeadsPlanned, ManyPlanned, Planned};
-
-// The overlapping places that a merge allows.
-pub const ALLOWED: usize = 2;
 
 // What planning a join comes to: how many answer rows, or the first merge that fails.
 pub enum Plan {
@@ -35,7 +32,7 @@ fn plan_leads(
     requires narrow { ⌜ p ≤ 1024 ⌝ }
     ensures { λ r. ⌜ LeadsPlanned m n p (now (rows .entry)) (now (leads .entry)) (now (list .entry)) (now (list .exit)) r ⌝ }
 {
-    match join_leads::check_leads(rows, p, leads, ALLOWED) {
+    match join_leads::check_leads(rows, p, leads, join_rows::ALLOWED) {
         Checked::Done => Plan::Rows(join_leads::list_leads(leads, m, n, list)),
         Checked::Failed { kept, failed } => Plan::Failed { kept, failed },
     }

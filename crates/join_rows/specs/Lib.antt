@@ -1,0 +1,3 @@
+pub mod Sides
+pub mod Codes
+pub mod Written
