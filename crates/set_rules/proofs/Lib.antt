@@ -1,0 +1,4 @@
+pub mod Operators
+pub mod Listing
+pub mod Records
+pub mod Rows

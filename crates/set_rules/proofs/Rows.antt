@@ -1,0 +1,108 @@
+-- The readings of rows: each row's width, one row, and all of them. Assumes nothing.
+use Prim.Native.Nat.{ℕ, zero, suc, _+_, _-_, _*_, _≤_, _<_}
+use mathlib.Core.Path.{_≡_, refl, sym, ap, _∙_}
+use mathlib.Core.Bool.{Bool, true, false, cond}
+use mathlib.Core.List.{List, [], _∷_, _++_}
+use native.Mathlib.Nat.{suc-mul, mul-le-mul, mul-le-mul-right}
+use native.Mathlib.Omega.{arith}
+use mir.Syntax.{w64}
+use mir.Val.{Fits}
+use lib.Dec.{ltb}
+use lib.ListN.{length, getD, take, drop, length-take, length-drop}
+use borrow.Author.Tests.{lt-ltb, le-ltb, ltb-true, ltb-false}
+use Rattle.operator.specs.Kinds.{SetRule}
+use Rattle.model.specs.Limits.{maxSeries, maxPoints}
+use Rattle.model.specs.Lists.{isEmpty, gather}
+use Rattle.semantics.specs.Binop.{pointwise}
+use Rattle.plan.specs.Merging.{rowAt}
+use Rattle.plan.specs.Sets.{SetSides, metPlaces, setPoint, firstAt, setRow, leftRow}
+use Rattle.answers.specs.Outcomes.{startingWith}
+use Rattle.answers.proofs.Writing.{Writing, writing-ends, writing-count}
+use Rattle.answers.proofs.Rows.{Wide, RowsWriting, rows-start, row-within}
+use Rattle.set_kernels.specs.Places.{RightSide}
+use Rattle.set_rules.specs.Sides.{RowSide, rowSides, rowReadings, RowsBelow, RecordsPut}
+use Rattle.set_rules.proofs.Listing.{row-in, row-wide}
+
+pub row-below : (n : ℕ) (list : List ℕ) (r : ℕ) → RowsBelow n list → r < length list → getD list r 0 < n
+row-below n list r b h = b .each r h
+
+-- the records put
+
+pub records-put : (part : ℕ → List ℕ) (rows d₀ : List ℕ) (r : ℕ) (d : List ℕ) (o : ℕ) → Writing part rows d₀ r d o → length rows ≤ r → RecordsPut (gather part rows) d₀ d o
+records-put part rows d₀ r d o w h = record { content = writing-ends part rows d₀ r d o w h; count = writing-count part rows d₀ r d o w h }
+
+-- one row
+
+point-count : (f : ℕ → ℕ → ℕ) (i : ℕ) (xs : List ℕ) → length (pointwise f i xs) ≡ length xs
+point-count f i [] = refl
+point-count f i (x ∷ xs) = ap suc (point-count f (suc i) xs)
+
+set-count : (rule : SetRule) (p : ℕ) (rows places x : List ℕ) → length (setRow rule p rows places x) ≡ length x
+unfolding setRow
+set-count rule p rows places x = point-count (λ i. setPoint rule (firstAt p rows i places)) 0 x
+
+left-count : (rule : SetRule) (p : ℕ) (rows places x : List ℕ) → length (leftRow rule p rows places x) ≡ length x
+left-count rule p rows places x = go (isEmpty places)
+  where
+    go : (b : Bool) → length (cond b x (setRow rule p rows places x)) ≡ length x
+    go true = refl
+    go false = set-count rule p rows places x
+
+-- a row and the part that it is written into have one width
+pub left-meets : (p : ℕ) (lkeys left : List ℕ) (x : ℕ) (row out : List ℕ) → RowSide p lkeys left → x < length lkeys → row ≡ rowAt p left x → length out ≡ p → length row ≡ length out
+left-meets p lkeys left x row out s h e w = row-wide p left row x (row-in p lkeys left x s h) e ∙ sym w
+
+pub right-start : (falls : Bool) (p n : ℕ) (keys rows : List ℕ) (x : ℕ) → RightSide falls p keys rows → n ≤ x → x < n + length keys → (x - n) * p + p ≤ length rows
+right-start falls p n keys rows x s h k = let l : x - n < length keys = omega arith in rw (s .size) (rw (← suc-mul) (mul-le-mul-right p l))
+
+pub right-meets : (falls : Bool) (p n : ℕ) (keys rows : List ℕ) (x : ℕ) (row out : List ℕ) → RightSide falls p keys rows → n ≤ x → x < n + length keys → row ≡ rowAt p rows (x - n) → length out ≡ p → length row ≡ length out
+right-meets falls p n keys rows x row out s h k e w =
+    row-wide p rows row (x - n) (right-start falls p n keys rows x s h k) e ∙ sym w
+
+module _ (rule : SetRule) (falls : Bool) (p : ℕ) (lkeys left keys rows : List ℕ) where
+  module _ (side : RowSide p lkeys left) (x : ℕ) (h : x < length lkeys) (row : List ℕ) (e : row ≡ rowAt p left x) where
+    pub left-wide : length row ≡ p
+    left-wide = row-wide p left row x (row-in p lkeys left x side h) e
+
+    pub left-is : (out : List ℕ) → out ≡ leftRow rule (length row) rows (metPlaces falls keys (getD lkeys x 0)) row → out ≡ rowReadings (rowSides rule falls false p lkeys left keys rows) x
+    left-is out f = f ∙ (rw (left-wide, e, lt-ltb x (length lkeys) h))
+
+  module _ (side : RightSide falls p keys rows) (x : ℕ) (h : length lkeys ≤ x) (k : x < length lkeys + length keys) where
+    module _ (row : List ℕ) (e : row ≡ rowAt p rows (x - length lkeys)) where
+      pub right-wide : length row ≡ p
+      right-wide = row-wide p rows row (x - length lkeys) (right-start falls p (length lkeys) keys rows x side h k) e
+
+      pub right-is : (out : List ℕ) → out ≡ row → out ≡ rowReadings (rowSides rule falls false p lkeys left keys rows) x
+      right-is out f = f ∙ e ∙ (rw (le-ltb x (length lkeys) h))
+
+  -- all of them
+  module _ (side : RowSide p lkeys left) (right : RightSide falls p keys rows) where
+    readings-wide : (x : ℕ) → x < length lkeys + length keys → (b : Bool) → ltb x (length lkeys) ≡ b → length (rowReadings (rowSides rule falls false p lkeys left keys rows) x) ≡ p
+    readings-wide x k true t =
+        let h : x < length lkeys = ltb-true x (length lkeys) t in
+        rw t (left-count rule p rows (metPlaces falls keys (getD lkeys x 0)) (rowAt p left x) ∙ row-wide p left (rowAt p left x) x (row-in p lkeys left x side h) refl)
+    readings-wide x k false t =
+        let h : length lkeys ≤ x = ltb-false x (length lkeys) t in
+        rw t (right-wide right x h k (rowAt p rows (x - length lkeys)) refl)
+
+    pub put-starts : (list out : List ℕ) → RowsBelow (length lkeys + length keys) list → length list * p ≤ length out → RowsWriting (rowReadings (rowSides rule falls false p lkeys left keys rows)) p list out 0 out
+    put-starts list out b h =
+        rows-start (rowReadings (rowSides rule falls false p lkeys left keys rows)) p list out (record { each = λ i l. readings-wide (getD list i 0) (b .each i l) (ltb (getD list i 0) (length lkeys)) refl }) h
+
+-- the part of a row
+
+pub part-wide : (g : ℕ → List ℕ) (p : ℕ) (rows d₀ : List ℕ) (r : ℕ) (d : List ℕ) → RowsWriting g p rows d₀ r d → r < length rows → length (take (r * p + p - r * p) (drop (r * p) d)) ≡ p
+part-wide g p rows d₀ r d inv h = simp (length-take, length-drop) (omega (arith, row-within g p rows d₀ r d inv h))
+
+product-few : (r n p : ℕ) → r < n → n ≤ maxSeries → p ≤ maxPoints → r * p ≤ 524288
+product-few r n p h k q = let few : r ≤ 512 = omega arith in let most : r * p ≤ 512 * 1024 = mul-le-mul few q in omega arith
+
+module _ (r p : ℕ) (rows : List ℕ) (h : r < length rows) (k : length rows ≤ maxSeries) (q : p ≤ maxPoints) where
+  pub from-fits : Fits w64 (r * p)
+  from-fits = omega (arith, product-few r (length rows) p h k q)
+
+  pub to-fits : Fits w64 (r * p + p)
+  to-fits = omega (arith, product-few r (length rows) p h k q)
+
+  pub bytes-fit : Fits w64 (r * p * 8)
+  bytes-fit = omega (arith, product-few r (length rows) p h k q)

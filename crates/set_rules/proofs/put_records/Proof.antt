@@ -1,0 +1,71 @@
+use Prim.Native.Nat.{_-_}
+use lib.ListN.{length}
+use Rattle.timeseries.specs.Sides.{labelsIn}
+use Rattle.set_rules.specs.Sides.{rowLabels}
+use Rattle.model.specs.Record.{encode}
+use Rattle.answers.proofs.Writing.{Writing, writing-starts, writing-room, writing-turn, writing-length}
+use Rattle.set_rules.proofs.Rows.{row-below, records-put}
+use borrow.Author.Needs.{needs}
+use Rattle.set_rules.proofs.put_records.Statement.{statement}
+use Rattle.set_rules.proofs.put_records.Tie as tie
+use Rattle.set_rules.proofs.put_records.Reads as reads
+use Rattle.set_rules.proofs.put_records.Lts as lts
+use Rattle.set_rules.proofs.put_record.Reads as put-record-reads
+
+abbrev Inv-loop : tie.InvT-loop
+Inv-loop left lat right rat list out₀ o₀ r₀ out o r = Writing (λ x. encode (rowLabels (length lat - 1) (labelsIn left lat) (labelsIn right rat) x)) list out₀ r out o
+
+abbrev μ-loop : tie.MeasureT-loop
+μ-loop left lat right rat list out₀ o₀ r₀ out o r = length list - r
+
+-- src/lib.rt:237:5
+loop-holds : tie.Need-loop-holds Inv-loop μ-loop
+loop-holds c = search writing-starts
+
+-- src/lib.rt:238:47
+mul-put-record : tie.Need-mul-put-record Inv-loop μ-loop
+mul-put-record c = search needs
+
+-- src/lib.rt:238:47
+shared-slice-read-put-record : tie.Need-shared-slice-read-put-record Inv-loop μ-loop
+shared-slice-read-put-record c = search needs
+
+-- src/lib.rt:238:9
+put-record-requires : tie.Need-put-record-requires Inv-loop μ-loop
+put-record-requires c κs = (search needs, (search needs, (search row-below, writing-room _ _ _ _ _ _ (c .before .before .before .loop .inv) (c .before .before .loop-test .taken))))
+
+-- src/lib.rt:239:9
+add-r : tie.Need-add-r Inv-loop μ-loop
+add-r c = search needs
+
+-- src/lib.rt:237:5
+loop-less : tie.Need-loop-less Inv-loop μ-loop
+loop-less c = search needs
+
+-- src/lib.rt:237:5
+loop-again : tie.Need-loop-again Inv-loop μ-loop
+loop-again c = search writing-turn
+
+-- src/lib.rt:221:1
+same-length : tie.Need-same-length Inv-loop μ-loop
+same-length c = search writing-length
+
+-- src/lib.rt:221:1
+returns : tie.Need-returns Inv-loop μ-loop
+returns c = search records-put
+
+pub put-records-spec : {M : Type 1} → statement M
+put-records-spec =
+    tie.close
+    (tie.spec
+    Inv-loop
+    μ-loop
+    loop-holds
+    mul-put-record
+    shared-slice-read-put-record
+    put-record-requires
+    add-r
+    loop-less
+    loop-again
+    same-length
+    returns)

@@ -1,0 +1,101 @@
+use mathlib.Core.Bool.{false}
+use Prim.Native.Nat.{_-_}
+use lib.ListN.{length}
+use Rattle.answers.proofs.Rows.{RowsWriting, row-within, rows-turn, rows-length, rows-end}
+use Rattle.set_kernels.specs.Points.{meant}
+use Rattle.set_rules.specs.Sides.{rowSides, rowReadings}
+use Rattle.set_rules.proofs.Rows.{row-below, put-starts, from-fits, to-fits, bytes-fit, part-wide}
+use borrow.Author.Needs.{needs}
+use Rattle.set_rules.proofs.put_rows.Statement.{statement}
+use Rattle.set_rules.proofs.put_rows.Tie as tie
+use Rattle.set_rules.proofs.put_rows.Reads as reads
+use Rattle.set_rules.proofs.put_rows.Lts as lts
+use Rattle.set_rules.proofs.put_row.Reads as put-row-reads
+
+abbrev Inv-loop : tie.InvT-loop
+Inv-loop rule falls p lkeys left keys rows list out₀ r₀ out r = RowsWriting (rowReadings (rowSides (meant rule) falls false p lkeys left keys rows)) p list out₀ r out
+
+abbrev μ-loop : tie.MeasureT-loop
+μ-loop rule falls p lkeys left keys rows list out₀ r₀ out r = length list - r
+
+-- src/lib.rt:300:5
+loop-holds : tie.Need-loop-holds Inv-loop μ-loop
+loop-holds c = search put-starts
+
+-- src/lib.rt:301:20
+mul-from : tie.Need-mul-from Inv-loop μ-loop
+mul-from c = search from-fits
+
+-- src/lib.rt:302:18
+add-to : tie.Need-add-to Inv-loop μ-loop
+add-to c = search to-fits
+
+-- src/lib.rt:311:13
+mul-put-row : tie.Need-mul-put-row Inv-loop μ-loop
+mul-put-row c = search needs
+
+-- src/lib.rt:311:13
+shared-slice-read-put-row : tie.Need-shared-slice-read-put-row Inv-loop μ-loop
+shared-slice-read-put-row c = search needs
+
+-- src/lib.rt:312:13
+mul-put-row-2 : tie.Need-mul-put-row-2 Inv-loop μ-loop
+mul-put-row-2 c = search bytes-fit
+
+-- src/lib.rt:312:13
+sub-put-row : tie.Need-sub-put-row Inv-loop μ-loop
+sub-put-row c = search needs
+
+-- src/lib.rt:312:13
+part-put-row-start : tie.Need-part-put-row-start Inv-loop μ-loop
+part-put-row-start c = search needs
+
+-- src/lib.rt:312:13
+part-put-row-end : tie.Need-part-put-row-end Inv-loop μ-loop
+part-put-row-end c = search row-within
+
+-- src/lib.rt:303:9
+put-row-requires : tie.Need-put-row-requires Inv-loop μ-loop
+put-row-requires c κs = (search part-wide, (search needs, (search needs, search row-below)))
+
+-- src/lib.rt:314:9
+add-r : tie.Need-add-r Inv-loop μ-loop
+add-r c = search needs
+
+-- src/lib.rt:300:5
+loop-less : tie.Need-loop-less Inv-loop μ-loop
+loop-less c = search needs
+
+-- src/lib.rt:300:5
+loop-again : tie.Need-loop-again Inv-loop μ-loop
+loop-again c = search rows-turn
+
+-- src/lib.rt:280:1
+same-length : tie.Need-same-length Inv-loop μ-loop
+same-length c = search rows-length
+
+-- src/lib.rt:280:1
+returns : tie.Need-returns Inv-loop μ-loop
+returns c = search rows-end
+
+pub put-rows-spec : {M : Type 1} → statement M
+put-rows-spec =
+    tie.close
+    (tie.spec
+    Inv-loop
+    μ-loop
+    loop-holds
+    mul-from
+    add-to
+    mul-put-row
+    shared-slice-read-put-row
+    mul-put-row-2
+    sub-put-row
+    part-put-row-start
+    part-put-row-end
+    put-row-requires
+    add-r
+    loop-less
+    loop-again
+    same-length
+    returns)
