@@ -128,7 +128,21 @@ fn join_row<'a>(
 {
     let mut leads = [0usize; 512];
     let count = keys.len();
-    marked_row(w, rec, k, many, array, at, keys, rows, o, join, skip, &mut leads[..count], out);
+    marked_row(
+        w,
+        rec,
+        k,
+        many,
+        array,
+        at,
+        keys,
+        rows,
+        o,
+        join,
+        skip,
+        &mut leads[..count],
+        out,
+    );
 }
 
 // Writes the answer series of a row code: its record at a place of the labels, and its readings. Gives the place behind the record.
@@ -160,7 +174,28 @@ pub fn write_row<'a>(
     let o = x % 512;
     let rec = timeseries::record(many_array, many_at, m);
     let many = timeseries::row(many_rows, p, m);
-    join_row(w, rec, many_keys[m], many, array, at, keys, rows, o, join, skip, out);
+    join_row(
+        w,
+        rec,
+        many_keys[m],
+        many,
+        array,
+        at,
+        keys,
+        rows,
+        o,
+        join,
+        skip,
+        out,
+    );
     let naming = w.naming;
-    set_tags::set_tags(labels, from, rec, timeseries::record(array, at, o), join, skip, naming)
+    set_tags::set_tags(
+        labels,
+        from,
+        rec,
+        timeseries::record(array, at, o),
+        join,
+        skip,
+        naming,
+    )
 }

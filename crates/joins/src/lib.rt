@@ -86,7 +86,21 @@ fn plan_many<'a>(
 {
     let mut leads = [0usize; 512];
     let count = keys.len();
-    plan_marked(rec, m, k, n, p, array, at, keys, rows, join, skip, &mut leads[..count], list)
+    plan_marked(
+        rec,
+        m,
+        k,
+        n,
+        p,
+        array,
+        at,
+        keys,
+        rows,
+        join,
+        skip,
+        &mut leads[..count],
+        list,
+    )
 }
 
 // Every many-side series that takes part, up to the first merge that fails.

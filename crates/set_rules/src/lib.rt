@@ -1,36 +1,30 @@
 // Set rules: which series answer, their labels copied, and their rows.
-use answers::Outcome;
-use answers::Room;
 use answers::Tally;
 use label_edits::Size;
 use labels::Place;
 use operator::Operator;
 use set_kernels::SetRule;
 ghost use mathlib.Core.Path.{_≡_};
-ghost use mathlib.Core.Bool.{false, _&&_};
-ghost use mathlib.Core.Option.{none};
-ghost use mathlib.Core.List.{map};
+ghost use mathlib.Core.Bool.{false};
 ghost use Prim.Native.Nat.{_+_, _-_, _*_, _≤_, _<_};
-ghost use lib.ListN.{length, getD};
+ghost use lib.ListN.{length};
 ghost use Rattle.operator.specs.Kinds.{kindOf};
 ghost use Rattle.model.specs.Limits.{maxSeries, maxPoints, maxLabelBytes};
 ghost use Rattle.model.specs.Lists.{gather};
 ghost use Rattle.model.specs.Record.{encode};
 ghost use Rattle.metric_name.specs.Lenient.{labelsOf};
 ghost use Rattle.label_edits.specs.Written.{Put};
-ghost use Rattle.semantics.specs.Call.{fit};
-ghost use Rattle.plan.specs.Conclude.{conclude};
-ghost use Rattle.plan.specs.Sets.{leftsFrom, rightsFrom, setRows, setSeries};
+ghost use Rattle.plan.specs.Sets.{leftsFrom, rightsFrom, setRows};
 ghost use Rattle.timeseries.specs.Sides.{labelsIn};
-ghost use Rattle.answers.specs.Outcomes.{Ran, startingWith};
+ghost use Rattle.answers.specs.Outcomes.{startingWith};
 ghost use Rattle.answers.specs.Tallies.{TallyOf, recordsOf};
 ghost use Rattle.set_kernels.specs.Points.{meant};
 ghost use Rattle.set_kernels.specs.Places.{NotedAll, RightSide};
 ghost use Rattle.set_rules.specs.Rules.{ruleOf, fallsBack, bareSide, addsRight};
-ghost use Rattle.set_rules.specs.Sides.{SizedRecord, RecordSide, RowSide, LentSide, rowSides, sidesOf, rowLabels, rowReadings, RowsBelow, RecordsPut, lentSides};
+ghost use Rattle.set_rules.specs.Sides.{SizedRecord, RecordSide, RowSide, rowSides, rowLabels, rowReadings, RowsBelow, RecordsPut};
 
 // The rule of an operator.
-fn set_rule(op: Operator) -> SetRule
+pub fn set_rule(op: Operator) -> SetRule
     ensures { λ r. ⌜ meant r ≡ ruleOf (kindOf op) ⌝ }
 {
     match op {
@@ -43,7 +37,7 @@ fn set_rule(op: Operator) -> SetRule
 }
 
 // Whether an operator falls back to a right side of one series without name and tags.
-fn falls_back(op: Operator) -> bool
+pub fn falls_back(op: Operator) -> bool
     ensures { λ r. ⌜ r ≡ fallsBack (kindOf op) ⌝ }
 {
     match op {
@@ -53,7 +47,7 @@ fn falls_back(op: Operator) -> bool
 }
 
 // Whether right series of keys that no left one has are in the answer, by the number of left series.
-fn adds_right(op: Operator, left: usize) -> bool
+pub fn adds_right(op: Operator, left: usize) -> bool
     ensures { λ r. ⌜ r ≡ addsRight (kindOf op) left ⌝ }
 {
     match op {
@@ -64,7 +58,7 @@ fn adds_right(op: Operator, left: usize) -> bool
 }
 
 // Whether a side is one series without name and tags: its record is two bytes.
-fn is_scalar(array: &[u8], at: &[usize]) -> bool
+pub fn is_scalar(array: &[u8], at: &[usize]) -> bool
     requires { ⌜ RecordSide (now array) (now at) ⌝ }
     ensures { λ r. ⌜ r ≡ bareSide (labelsIn (now (array .entry)) (now (at .entry))) ⌝ }
 {
@@ -124,7 +118,7 @@ fn list_right(lkeys: &[usize], keys: &[usize], n: usize, list: &mut [usize]) -> 
 }
 
 // Lists the rows of the answer: left places, then right ones counted behind them. Counts on where the list is full.
-fn list_rows(
+pub fn list_rows(
     rule: SetRule,
     falls: bool,
     adds: bool,
@@ -176,7 +170,7 @@ fn row_size(left: &[u8], lat: &[usize], right: &[u8], rat: &[usize], x: usize) -
 }
 
 // The tally of the records of rows.
-fn tally_rows(left: &[u8], lat: &[usize], right: &[u8], rat: &[usize], list: &[usize]) -> Tally
+pub fn tally_rows(left: &[u8], lat: &[usize], right: &[u8], rat: &[usize], list: &[usize]) -> Tally
     requires { ⌜ RecordSide (now left) (now lat) ⌝ }
     requires { ⌜ RecordSide (now right) (now rat) ⌝ }
     requires { ⌜ RowsBelow (length (now lat) - 1 + (length (now rat) - 1)) (now list) ⌝ }
@@ -219,7 +213,7 @@ fn put_record(
 }
 
 // Copies the records of rows, one behind another.
-fn put_records(
+pub fn put_records(
     left: &[u8],
     lat: &[usize],
     right: &[u8],
@@ -263,22 +257,14 @@ fn put_row(
     let n = lkeys.len();
     if x < n {
         let k = lkeys[x];
-        set_kernels::put_left_row(
-            rule,
-            falls,
-            timeseries::row(left, p, x),
-            k,
-            keys,
-            rows,
-            out,
-        );
+        set_kernels::put_left_row(rule, falls, timeseries::row(left, p, x), k, keys, rows, out);
         return;
     }
     answers::copy_row(out, timeseries::row(rows, p, x - n));
 }
 
 // Writes the readings of rows, each into its own part.
-fn put_rows(
+pub fn put_rows(
     rule: SetRule,
     falls: bool,
     p: usize,
@@ -313,46 +299,5 @@ fn put_rows(
             &mut out[from..to],
         );
         r += 1;
-    }
-}
-
-// The answer of listed rows, where it fits.
-fn answer_rows(
-    rule: SetRule,
-    falls: bool,
-    p: usize,
-    larray: &[u8],
-    lat: &[usize],
-    lkeys: &[usize],
-    left: &[u64],
-    array: &[u8],
-    at: &[usize],
-    keys: &[usize],
-    rows: &[u64],
-    list: &[usize],
-    labels: &mut [u8],
-    out: &mut [u64],
-) -> Outcome
-    requires { ⌜ p ≤ maxPoints ⌝ }
-    requires { ⌜ LentSide p (now larray) (now lat) (now lkeys) (now left) ⌝ }
-    requires { ⌜ LentSide p (now array) (now at) (now keys) (now rows) ⌝ }
-    requires { ⌜ RightSide falls p (now keys) (now rows) ⌝ }
-    requires { ⌜ RowsBelow (length (now lkeys) + length (now keys)) (now list) ⌝ }
-    requires { ⌜ length (now list) ≤ maxSeries ⌝ }
-    ensures { λ r. ⌜ Ran (fit (length (now (labels .entry))) (length (now (out .entry))) (record { points = p }) (map (setSeries (lentSides (meant rule) falls false p (now (larray .entry)) (now (lat .entry)) (now (lkeys .entry)) (now (left .entry)) (now (array .entry)) (now (at .entry)) (now (keys .entry)) (now (rows .entry)))) (now (list .entry)))) (now (labels .entry)) (now (out .entry)) (now (labels .exit)) (now (out .exit)) r ⌝ }
-{
-    let t = tally_rows(larray, lat, array, at, list);
-    match answers::room_for(list.len(), p, t, labels.len(), out.len()) {
-        Room::TooLarge => Outcome::TooLarge,
-        Room::TooLong => Outcome::TooLong,
-        Room::Fits => {
-            let bytes = put_records(larray, lat, array, at, list, labels);
-            put_rows(rule, falls, p, lkeys, left, keys, rows, list, out);
-            Outcome::Answer {
-                series: list.len(),
-                points: p,
-                bytes,
-            }
-        }
     }
 }
