@@ -1,0 +1,5 @@
+pub mod Edits
+pub mod Checks
+pub mod Lists
+pub mod Records
+pub mod Rows
