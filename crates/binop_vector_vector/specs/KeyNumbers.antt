@@ -9,9 +9,7 @@ use lib.ListN.{length, getD, take, drop}
 use Rattle.model.specs.Labels.{Labels}
 use Rattle.model.specs.Query.{Query, sameKey}
 use Rattle.model.specs.Vector.{Series, seriesOf}
-use Rattle.timeseries.specs.Sides.{labelsIn, sideOf}
-use Rattle.timeseries.specs.Keys as Numbered
-use Rattle.timeseries.specs.Keys.{sameKeys, keptNumber, droppedMissing}
+use Rattle.timeseries.specs.Keys.{sameKeys, numbers, keptNumber, droppedMissing}
 use Rattle.timeseries.specs.KeyLaws.{left-left, left-right, right-right, left-below, right-below}
 use Rattle.plan.specs.Keys.{dropped}
 use Rattle.plan.specs.Laws.Common.{noSeries, labelsOfSide, getD-labels}
@@ -40,17 +38,14 @@ dropped-rows p rows (k ∷ ks) (l ∷ ls) e = ap (λ x. keptNumber (take p rows)
 label-at : (p : ℕ) (ls : List Labels) (readings : List ℕ) (i : ℕ) → getD (seriesOf p ls readings) i noSeries .labels ≡ getD ls i noLabels
 label-at p ls readings i = sym (getD-labels (seriesOf p ls readings) i) ∙ ap (λ x. getD x i noLabels) (series-labels p ls readings)
 
--- both sides numbered
-module _ (q : Query) (p : ℕ) (array at rows hashes keys array′ at′ rows′ hashes′ keys′ : List ℕ)
-    (n : Numbered.Numbered (q .matching) (q .matchingList) [] array at hashes keys)
-    (n′ : Numbered.Numbered (q .matching) (q .matchingList) (labelsIn array at) array′ at′ hashes′ keys′)
-    (count : length keys ≡ length (labelsIn array at)) (count′ : length keys′ ≡ length (labelsIn array′ at′))
-    (few : length (labelsIn array at) ≤ 512) (few′ : length (labelsIn array′ at′) ≤ 512) where
+-- both sides numbered by first place
+module _ (q : Query) (p : ℕ) (lefts rights : List Labels) (rows rows′ keys keys′ : List ℕ) (n : keys ≡ numbers (q .matching) (q .matchingList) lefts lefts) (n′ : keys′ ≡ numbers (q .matching) (q .matchingList) (lefts ++ rights) rights)
+    (count : length keys ≡ length lefts) (count′ : length keys′ ≡ length rights) (few : length lefts ≤ 512) (few′ : length rights ≤ 512) where
   abbrev ls : List Series
-  ls = sideOf array at p rows
+  ls = seriesOf p lefts rows
 
   abbrev rs : List Series
-  rs = sideOf array′ at′ p rows′
+  rs = seriesOf p rights rows′
 
   tells : (cs ds : List Labels) (xs ys rowsC rowsD : List ℕ) → ((i j : ℕ) → i < length cs → j < length ds → eqb (getD xs i 0) (getD ys j 0) ≡ sameKeys (q .matching) (q .matchingList) (getD cs i noLabels) (getD ds j noLabels))
       → TellsKeys q (seriesOf p cs rowsC) (seriesOf p ds rowsD) xs ys
@@ -60,14 +55,14 @@ module _ (q : Query) (p : ℕ) (array at rows hashes keys array′ at′ rows′
         tells = λ i j hi hj. rw (label-at p cs rowsC i, label-at p ds rowsD j) (h i j (rw (series-count p cs rowsC) at hi) (rw (series-count p ds rowsD) at hj));
       }
 
-  pub keys-told : KeysTold q ls rs keys keys′
+  pub keys-told : KeysTold q (seriesOf p lefts rows) (seriesOf p rights rows′) keys keys′
   keys-told =
       record {
-        sameLeft = count ∙ sym (series-count p (labelsIn array at) rows);
-        sameRight = count′ ∙ sym (series-count p (labelsIn array′ at′) rows′);
-        leftLeft = tells (labelsIn array at) (labelsIn array at) keys keys rows rows (λ i j hi hj. left-left (q .matching) (q .matchingList) (labelsIn array at) (labelsIn array′ at′) keys keys′ (n .numbered) (n′ .numbered) noLabels i j hi hj);
-        leftRight = tells (labelsIn array at) (labelsIn array′ at′) keys keys′ rows rows′ (λ i j hi hj. left-right (q .matching) (q .matchingList) (labelsIn array at) (labelsIn array′ at′) keys keys′ (n .numbered) (n′ .numbered) noLabels i j hi hj);
-        rightRight = tells (labelsIn array′ at′) (labelsIn array′ at′) keys′ keys′ rows′ rows′ (λ i j hi hj. right-right (q .matching) (q .matchingList) (labelsIn array at) (labelsIn array′ at′) keys keys′ (n .numbered) (n′ .numbered) noLabels i j hi hj);
-        leftBelow = λ i h. let z = left-below (q .matching) (q .matchingList) (labelsIn array at) (labelsIn array′ at′) keys keys′ (n .numbered) (n′ .numbered) noLabels i (rw (series-count p (labelsIn array at) rows) at h) in omega (arith, z, few, few′);
-        rightBelow = λ i h. let z = right-below (q .matching) (q .matchingList) (labelsIn array at) (labelsIn array′ at′) keys keys′ (n .numbered) (n′ .numbered) noLabels i (rw (series-count p (labelsIn array′ at′) rows′) at h) in omega (arith, z, few, few′);
+        sameLeft = count ∙ sym (series-count p lefts rows);
+        sameRight = count′ ∙ sym (series-count p rights rows′);
+        leftLeft = tells lefts lefts keys keys rows rows (left-left (q .matching) (q .matchingList) lefts rights keys keys′ n n′ noLabels);
+        leftRight = tells lefts rights keys keys′ rows rows′ (left-right (q .matching) (q .matchingList) lefts rights keys keys′ n n′ noLabels);
+        rightRight = tells rights rights keys′ keys′ rows′ rows′ (right-right (q .matching) (q .matchingList) lefts rights keys keys′ n n′ noLabels);
+        leftBelow = λ i h. let z = left-below (q .matching) (q .matchingList) lefts rights keys keys′ n n′ noLabels i (rw (series-count p lefts rows) at h) in omega (arith, z, few, few′);
+        rightBelow = λ i h. let z = right-below (q .matching) (q .matchingList) lefts rights keys keys′ n n′ noLabels i (rw (series-count p rights rows′) at h) in omega (arith, z, few, few′);
       }

@@ -1,2 +1,5 @@
+pub mod Lent
 pub mod KeyNumbers
+pub mod Keyed
+pub mod Stages
 pub mod Families

@@ -306,6 +306,8 @@ pub record SideTaken (side : ℕ) (s x at : List ℕ) (n p : ℕ) : Type 0 where
   pub few : n ≤ maxSeries
   pub narrow : p ≤ maxPoints
   pub rows : length x ≡ n * p
+  pub array : drop 6 s ≡ labelBytes (v .series)
+  pub starting : take (n + 1) at ≡ starts 0 (labelsOfAll (v .series))
   pub positions : Positions (drop 6 s) (take (n + 1) at)
   pub entries : length (take (n + 1) at) ≡ n + 1
   pub labels : labelsIn (drop 6 s) (take (n + 1) at) ≡ labelsOfAll (v .series)
@@ -329,6 +331,8 @@ module _ (side : ℕ) (s x before after : List ℕ) (room : length before ≡ 51
         few = few;
         narrow = omega (arith, w .parts .narrow, w .points);
         rows = w .parts .rows ∙ ap (λ (m : ℕ). m * w .v .shape .points) (w .count) ∙ ap (λ (m : ℕ). n * m) (w .points);
+        array = array;
+        starting = front;
         positions = rw (front, array) (positions-starts (w .v .series));
         entries = rw front (starts-count 0 ls ∙ ap (λ (m : ℕ). m + 1) many);
         labels = found;
