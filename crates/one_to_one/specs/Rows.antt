@@ -1,11 +1,12 @@
 -- The answer rows of one-to-one: the two sides of a key, each merged, under the operator. Assumes nothing.
-use Prim.Native.Nat.{ℕ, _<_}
+use Prim.Native.Nat.{ℕ, _≤_, _<_}
 use mathlib.Core.Path.{_≡_}
 use mathlib.Core.Bool.{Bool}
 use mathlib.Core.Option.{none}
 use mathlib.Core.List.{List}
 use lib.ListN.{length, getD}
 use Rattle.operator.specs.declared.Operator.{Operator}
+use Rattle.model.specs.Limits.{maxSeries, maxPoints}
 use Rattle.model.specs.Reading.{scalarOp}
 use Rattle.model.specs.Row.{zipWith}
 use Rattle.plan.specs.Keys.{firstOf}
@@ -36,6 +37,8 @@ pub record Paired (allowance : ℕ) (s : Sides) (j : ℕ) : Type 0 where
   pub lefts : SideMerged allowance (s .points) (s .leftRows) (s .leftKeys) (getD (s .leftKeys) j 0)
   pub rights : SideMerged allowance (s .points) (s .rightRows) (s .rightKeys) (getD (s .leftKeys) j 0)
 
--- left places of which each does
+-- left places of which each does, no more than an answer may have series
 pub record PairedRows (allowance : ℕ) (s : Sides) (list : List ℕ) : Type 0 where
+  pub few : length list ≤ maxSeries
+  pub narrow : s .points ≤ maxPoints
   pub each : (r : ℕ) → r < length list → Paired allowance s (getD list r 0)

@@ -3,10 +3,12 @@ use operator::Operator;
 ghost use mathlib.Core.Path.{_≡_};
 ghost use Prim.Native.Nat.{_+_, _*_, _≤_, _<_};
 ghost use lib.ListN.{length};
+ghost use Rattle.model.specs.Lists.{gather};
 ghost use Rattle.model.specs.Reading.{scalarOp};
 ghost use Rattle.model.specs.Row.{zipWith};
 ghost use Rattle.pairs.specs.Pairing.{sidesOf};
-ghost use Rattle.one_to_one.specs.Rows.{SideMerged, sideRow, pairedRow, Paired};
+ghost use Rattle.answers.specs.Outcomes.{startingWith};
+ghost use Rattle.one_to_one.specs.Rows.{SideMerged, sideRow, pairedRow, Paired, PairedRows};
 
 // The operator on a left row and the right side's row of a key, whose series are merged in a work row.
 fn with_merged_right(
@@ -132,4 +134,40 @@ fn pair_row(
         &mut work[..p],
         out,
     );
+}
+
+// Writes the answer rows of left places, each into its own part.
+fn put_pair_rows(
+    op: Operator,
+    bool: bool,
+    left: &[u64],
+    lkeys: &[usize],
+    right: &[u64],
+    rkeys: &[usize],
+    list: &[usize],
+    p: usize,
+    allowance: usize,
+    out: &mut [u64],
+)
+    requires { ⌜ PairedRows allowance (sidesOf p (now left) (now lkeys) (now right) (now rkeys)) (now list) ⌝ }
+    requires { ⌜ length (now list) * p ≤ length (now out) ⌝ }
+    ensures { λ _. ⌜ now (out .exit) ≡ startingWith (gather (pairedRow op bool allowance (sidesOf p (now (left .entry)) (now (lkeys .entry)) (now (right .entry)) (now (rkeys .entry)))) (now (list .entry))) (now (out .entry)) ⌝ }
+{
+    let mut r: usize = 0;
+    while r < list.len() {
+        let from = r * p;
+        let to = from + p;
+        pair_row(
+            op,
+            bool,
+            left,
+            lkeys,
+            right,
+            rkeys,
+            list[r],
+            allowance,
+            &mut out[from..to],
+        );
+        r += 1;
+    }
 }
