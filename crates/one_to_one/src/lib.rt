@@ -1,14 +1,21 @@
 // One-to-one: per key on both sides, each side's series merged into the last of them, and the operator on the two rows.
+use answers::Outcome;
+use answers::Room;
 use operator::Operator;
+use query::Query;
 ghost use mathlib.Core.Path.{_≡_};
 ghost use Prim.Native.Nat.{_+_, _*_, _≤_, _<_};
 ghost use lib.ListN.{length};
 ghost use Rattle.model.specs.Lists.{gather};
 ghost use Rattle.model.specs.Reading.{scalarOp};
 ghost use Rattle.model.specs.Row.{zipWith};
+ghost use Rattle.timeseries.specs.Sides.{labelsIn};
+ghost use Rattle.answers.specs.Outcomes.{startingWith, Ran};
+ghost use Rattle.answers.specs.Tallies.{recordsOf};
+ghost use Rattle.pairs.specs.Edits.{queryBy, pairLabels};
 ghost use Rattle.pairs.specs.Pairing.{sidesOf};
-ghost use Rattle.answers.specs.Outcomes.{startingWith};
 ghost use Rattle.one_to_one.specs.Rows.{SideMerged, sideRow, pairedRow, Paired, PairedRows};
+ghost use Rattle.one_to_one.specs.Answers.{answerOf, oneToOne, Listed, Clear, PairsPut};
 
 // The operator on a left row and the right side's row of a key, whose series are merged in a work row.
 fn with_merged_right(
@@ -169,5 +176,87 @@ fn put_pair_rows(
             &mut out[from..to],
         );
         r += 1;
+    }
+}
+
+// Writes the records and the rows of left places, and gives the bytes of the records.
+fn put_pairs(
+    q: Query,
+    names: &[u8],
+    p: usize,
+    array: &[u8],
+    at: &[usize],
+    lkeys: &[usize],
+    left: &[u64],
+    rkeys: &[usize],
+    right: &[u64],
+    list: &[usize],
+    labels: &mut [u8],
+    out: &mut [u64],
+) -> usize
+    requires { ⌜ Listed p (now array) (now at) (now lkeys) (now left) (now rkeys) (now right) (now list) ⌝ }
+    requires { ⌜ length (recordsOf (pairLabels (queryBy (now names) q) (labelsIn (now array) (now at))) (now list)) ≤ length (now labels) ⌝ }
+    requires { ⌜ length (now list) * p ≤ length (now out) ⌝ }
+    ensures { λ r. ⌜ PairsPut (queryBy (now (names .entry)) q) (sidesOf p (now (left .entry)) (now (lkeys .entry)) (now (right .entry)) (now (rkeys .entry))) (labelsIn (now (array .entry)) (now (at .entry))) (now (list .entry)) (now (labels .entry)) (now (labels .exit)) (now (out .entry)) (now (out .exit)) r ⌝ }
+{
+    let op = q.operator;
+    put_pair_rows(
+        op,
+        q.bool,
+        left,
+        lkeys,
+        right,
+        rkeys,
+        list,
+        p,
+        pairs::ALLOWED_OVERLAPS,
+        out,
+    );
+    pairs::put_pair_labels(array, at, list, q, names, labels)
+}
+
+// The answer of left places, written where it fits.
+fn answer_pairs(
+    q: Query,
+    names: &[u8],
+    p: usize,
+    array: &[u8],
+    at: &[usize],
+    lkeys: &[usize],
+    left: &[u64],
+    rkeys: &[usize],
+    right: &[u64],
+    list: &[usize],
+    labels: &mut [u8],
+    out: &mut [u64],
+) -> Outcome
+    requires { ⌜ Listed p (now array) (now at) (now lkeys) (now left) (now rkeys) (now right) (now list) ⌝ }
+    ensures { λ r. ⌜ Ran (answerOf (queryBy (now (names .entry)) q) (length (now (labels .entry))) (length (now (out .entry))) (sidesOf p (now (left .entry)) (now (lkeys .entry)) (now (right .entry)) (now (rkeys .entry))) (labelsIn (now (array .entry)) (now (at .entry))) (now (list .entry))) (now (labels .entry)) (now (out .entry)) (now (labels .exit)) (now (out .exit)) r ⌝ }
+{
+    let t = pairs::tally_pairs(array, at, list, q, names);
+    match answers::room_for(list.len(), p, t, labels.len(), out.len()) {
+        Room::TooLarge => Outcome::TooLarge,
+        Room::TooLong => Outcome::TooLong,
+        Room::Fits => {
+            let bytes = put_pairs(
+                q,
+                names,
+                p,
+                array,
+                at,
+                lkeys,
+                left,
+                rkeys,
+                right,
+                list,
+                labels,
+                out,
+            );
+            Outcome::Answer {
+                series: list.len(),
+                points: p,
+                bytes,
+            }
+        }
     }
 }
