@@ -1,13 +1,11 @@
 -- The answer of left places, as it fits. Assumes nothing.
-use Prim.Native.Nat.{ℕ, _+_, _*_, _≤_, _<_}
-use mathlib.Core.Path.{_≡_, refl, sym, ap, _∙_}
+use Prim.Native.Nat.{ℕ, _≤_}
+use mathlib.Core.Path.{_≡_}
 use mathlib.Core.List.{List}
-use native.Mathlib.Omega.{arith}
-use lib.ListN.{length, getD}
+use lib.ListN.{length}
 use Rattle.model.specs.Limits.{maxSeries}
 use Rattle.model.specs.Query as Model
 use Rattle.model.specs.Labels.{Labels}
-use Rattle.model.specs.Row.{twoOverlaps}
 use Rattle.semantics.specs.Binop.{allowedOverlaps}
 use Rattle.plan.specs.Pairs.{Sides, pairRow, pairSeries}
 use Rattle.answers.specs.declared.Outcome.the-variants as Out
@@ -15,7 +13,7 @@ use Rattle.answers.specs.declared.Tally.{Tally}
 use Rattle.answers.specs.declared.Room.{Room}
 use Rattle.answers.specs.declared.Room.the-variants as Room
 use Rattle.answers.specs.Outcomes.{Ran}
-use Rattle.answers.specs.Tallies.{recordsOf, TallyOf, roomOf}
+use Rattle.answers.specs.Tallies.{TallyOf, roomOf}
 use Rattle.answers.proofs.Concluding.{ran-too-large, ran-too-long, ran-answer}
 use Rattle.pairs.specs.Edits.{pairLabels}
 use Rattle.one_to_one.specs.Answers.{answerOf, PairsPut}

@@ -1,6 +1,6 @@
 -- The answer rows of left places, each written into its own part. Assumes nothing.
 use Prim.Native.Nat.{ℕ, _+_, _-_, _*_, _≤_, _<_}
-use mathlib.Core.Path.{_≡_, _∙_}
+use mathlib.Core.Path.{_≡_}
 use mathlib.Core.Bool.{Bool}
 use mathlib.Core.List.{List}
 use native.Mathlib.Nat.{mul-le-mul}
@@ -11,7 +11,7 @@ use lib.ListN.{length, getD, take, drop, length-take, length-drop}
 use borrow.Rule.Slice.PartMut.{putMid}
 use Rattle.operator.specs.declared.Operator.{Operator}
 use Rattle.model.specs.Reading.{scalarOp}
-use Rattle.answers.proofs.Rows.{Wide, RowsWriting, rows-start, row-within, rows-turn}
+use Rattle.answers.proofs.Rows.{RowsWriting, rows-start, row-within, rows-turn}
 use Rattle.pairs.specs.Pairing.{sidesOf}
 use Rattle.one_to_one.specs.Rows.{sideRow, pairedRow, Paired, PairedRows}
 use Rattle.one_to_one.proofs.Widths.{zip-wide, merged-wide}

@@ -1,5 +1,5 @@
 -- The row of a side of a pair, from the side itself or from a work row. Assumes nothing.
-use Prim.Native.Nat.{ℕ, _+_, _*_, _≤_, _<_}
+use Prim.Native.Nat.{ℕ, _+_, _*_, _≤_}
 use mathlib.Core.Path.{_≡_, sym, ap, _∙_}
 use mathlib.Core.Bool.{Bool, true}
 use mathlib.Core.Option.{none}
@@ -12,7 +12,7 @@ use borrow.Author.Tests.{eqb-true}
 use Rattle.model.specs.Row.{zipWith}
 use Rattle.timeseries.specs.Places as Places
 use Rattle.plan.specs.Keys.{firstOf, lastOf}
-use Rattle.plan.specs.Merging.{RowMerge, row, failedAt, rowAt, mergeLast, rowOf}
+use Rattle.plan.specs.Merging.{RowMerge, failedAt, rowAt, mergeLast, rowOf}
 use Rattle.merging.specs.declared.Merges.{Merges}
 use Rattle.merging.specs.declared.Merges.the-variants.{Done, FailedAt}
 use Rattle.merging.specs.Groups.{mergesTo, MergedGroup}
@@ -52,9 +52,6 @@ module _ (allowance p : ℕ) (rows keys : List ℕ) (k : ℕ) (s : SideMerged al
     work-room = rw h (omega (arith, s .level .whole))
 
     module _ (work : List ℕ) (r : Merges) (m : MergedGroup (mergeLast allowance (length work₀) rows keys k) (length work₀) work r) where
-      pub work-wide : length work ≡ p
-      work-wide = m .long ∙ h
-
       merged-row : (want : RowMerge) (r : Merges) → mergesTo r work ≡ want → failureOf want ≡ none → work ≡ rowOf want
       merged-row want Done e g = ap rowOf e
       merged-row want (FailedAt i) e g = absurd (let z : _≡_ {A = ℕ} 0 1 = apart (ap failureOf e ∙ g) in omega arith)

@@ -2,6 +2,7 @@
 use answers::Outcome;
 use answers::Room;
 use operator::Operator;
+use pairs::Checked;
 use query::Query;
 ghost use mathlib.Core.Path.{_≡_};
 ghost use Prim.Native.Nat.{_+_, _*_, _≤_, _<_};
@@ -9,11 +10,12 @@ ghost use lib.ListN.{length};
 ghost use Rattle.model.specs.Lists.{gather};
 ghost use Rattle.model.specs.Reading.{scalarOp};
 ghost use Rattle.model.specs.Row.{zipWith};
+ghost use Rattle.plan.specs.Pairs.{pairsFrom};
 ghost use Rattle.timeseries.specs.Sides.{labelsIn};
 ghost use Rattle.answers.specs.Outcomes.{startingWith, Ran};
 ghost use Rattle.answers.specs.Tallies.{recordsOf};
 ghost use Rattle.pairs.specs.Edits.{queryBy, pairLabels};
-ghost use Rattle.pairs.specs.Pairing.{sidesOf};
+ghost use Rattle.pairs.specs.Pairing.{sidesOf, PairSides, LeftLabels};
 ghost use Rattle.one_to_one.specs.Rows.{SideMerged, sideRow, pairedRow, Paired, PairedRows};
 ghost use Rattle.one_to_one.specs.Answers.{answerOf, oneToOne, Listed, Clear, PairsPut};
 
@@ -258,5 +260,78 @@ fn answer_pairs(
                 bytes,
             }
         }
+    }
+}
+
+// The answer of all pairs, where no merge fails.
+fn answer_all(
+    q: Query,
+    names: &[u8],
+    p: usize,
+    array: &[u8],
+    at: &[usize],
+    lkeys: &[usize],
+    left: &[u64],
+    rkeys: &[usize],
+    right: &[u64],
+    labels: &mut [u8],
+    out: &mut [u64],
+) -> Outcome
+    requires { ⌜ Clear p (now array) (now at) (now lkeys) (now left) (now rkeys) (now right) ⌝ }
+    ensures { λ r. ⌜ Ran (answerOf (queryBy (now (names .entry)) q) (length (now (labels .entry))) (length (now (out .entry))) (sidesOf p (now (left .entry)) (now (lkeys .entry)) (now (right .entry)) (now (rkeys .entry))) (labelsIn (now (array .entry)) (now (at .entry))) (pairsFrom (now (lkeys .entry)) (now (rkeys .entry)) 0 (now (lkeys .entry)))) (now (labels .entry)) (now (out .entry)) (now (labels .exit)) (now (out .exit)) r ⌝ }
+{
+    let mut list = [0usize; 512];
+    let n = pairs::list_pairs(lkeys, rkeys, &mut list);
+    answer_pairs(
+        q,
+        names,
+        p,
+        array,
+        at,
+        lkeys,
+        left,
+        rkeys,
+        right,
+        &list[..n],
+        labels,
+        out,
+    )
+}
+
+// Runs a one-to-one query on two sides with their key numbers: every merge is tried first, then the answer is written where it fits.
+pub fn run_pairs(
+    q: Query,
+    names: &[u8],
+    p: usize,
+    array: &[u8],
+    at: &[usize],
+    lkeys: &[usize],
+    left: &[u64],
+    rkeys: &[usize],
+    right: &[u64],
+    labels: &mut [u8],
+    out: &mut [u64],
+) -> Outcome
+    requires { ⌜ PairSides p (now left) (now lkeys) (now right) (now rkeys) ⌝ }
+    requires { ⌜ LeftLabels (now array) (now at) ⌝ }
+    requires { ⌜ length (now at) ≡ length (now lkeys) + 1 ⌝ }
+    ensures { λ r. ⌜ Ran (oneToOne (queryBy (now (names .entry)) q) (length (now (labels .entry))) (length (now (out .entry))) (sidesOf p (now (left .entry)) (now (lkeys .entry)) (now (right .entry)) (now (rkeys .entry))) (labelsIn (now (array .entry)) (now (at .entry)))) (now (labels .entry)) (now (out .entry)) (now (labels .exit)) (now (out .exit)) r ⌝ }
+{
+    match pairs::check_pairs(left, lkeys, right, rkeys, p, pairs::ALLOWED_OVERLAPS) {
+        Checked::Left { kept, failed } => Outcome::LeftTwice { kept, failed },
+        Checked::Right { kept, failed } => Outcome::RightTwice { kept, failed },
+        Checked::Fine => answer_all(
+            q,
+            names,
+            p,
+            array,
+            at,
+            lkeys,
+            left,
+            rkeys,
+            right,
+            labels,
+            out,
+        ),
     }
 }

@@ -1,5 +1,5 @@
 -- `merged_pair_row` meets its contract. Assumes nothing.
-use Rattle.one_to_one.proofs.Rows.{work-room, work-wide, work-merged, with-merged-left}
+use Rattle.one_to_one.proofs.Rows.{work-room, work-merged, with-merged-left}
 use borrow.Author.Needs.{needs}
 use Rattle.one_to_one.proofs.merged_pair_row.Statement.{statement}
 use Rattle.one_to_one.proofs.merged_pair_row.Tie as tie

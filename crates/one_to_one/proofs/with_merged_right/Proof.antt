@@ -1,5 +1,5 @@
 -- `with_merged_right` meets its contract. Assumes nothing.
-use Rattle.one_to_one.proofs.Rows.{work-room, work-wide, work-merged, with-merged-right}
+use Rattle.one_to_one.proofs.Rows.{work-room, work-merged, with-merged-right}
 use borrow.Author.Needs.{needs}
 use Rattle.one_to_one.proofs.with_merged_right.Statement.{statement}
 use Rattle.one_to_one.proofs.with_merged_right.Tie as tie
