@@ -1,270 +1,337 @@
 // One-to-one: per key on both sides, each side's series merged into the last of them, and the operator on the two rows.
-use answers::Tally;
-use label_edits::Size;
-use labels::Matching;
-use merging::Merges;
+use answers::Outcome;
+use answers::Room;
+use operator::Operator;
+use pairs::Checked;
 use query::Query;
 ghost use mathlib.Core.Path.{_≡_};
-ghost use Prim.Native.Nat.{_+_, _≤_, _<_};
-ghost use lib.ListN.{length, getD};
-ghost use Rattle.model.specs.Record.{encode};
-ghost use Rattle.metric_name.specs.Lenient.{labelsOf};
-ghost use Rattle.label_edits.specs.Written.{Put};
-ghost use Rattle.label_edits.specs.Edited.{Sized};
+ghost use Prim.Native.Nat.{_+_, _*_, _≤_, _<_};
+ghost use lib.ListN.{length};
+ghost use Rattle.model.specs.Lists.{gather};
+ghost use Rattle.model.specs.Reading.{scalarOp};
+ghost use Rattle.model.specs.Row.{zipWith};
+ghost use Rattle.plan.specs.Pairs.{pairsFrom};
 ghost use Rattle.timeseries.specs.Sides.{labelsIn};
-ghost use Rattle.semantics.specs.Binop.{adjustBinaryOpTags};
-ghost use Rattle.plan.specs.Keys.{firstOf};
-ghost use Rattle.plan.specs.Merging.{mergeLast};
-ghost use Rattle.plan.specs.Pairs.{isPair, pairClash, pairsClash, pairsFrom};
-ghost use Rattle.answers.specs.Tallies.{TallyOf, recordsOf};
-ghost use Rattle.one_to_one.specs.Edits.{queryBy, keepsName, InOrder, pairLabels};
-ghost use Rattle.one_to_one.specs.Pairing.{sidesOf, Level, PairSides, LeftLabels, PlacesIn, failureOf, failedIn, clashIn, clashAt, pairAt, LabelsPut};
+ghost use Rattle.answers.specs.Outcomes.{startingWith, Ran};
+ghost use Rattle.answers.specs.Tallies.{recordsOf};
+ghost use Rattle.pairs.specs.Edits.{queryBy, pairLabels};
+ghost use Rattle.pairs.specs.Pairing.{sidesOf, PairSides, LeftLabels};
+ghost use Rattle.one_to_one.specs.Rows.{SideMerged, sideRow, pairedRow, Paired, PairedRows};
+ghost use Rattle.one_to_one.specs.Answers.{answerOf, oneToOne, Listed, Clear, PairsPut};
 
-// The overlapping places that a merge allows.
-pub const ALLOWED_OVERLAPS: usize = 2;
-
-// Whether an edited left label keeps its name.
-fn keeps_name(q: Query, names: &[u8]) -> bool
-    ensures { λ r. ⌜ r ≡ keepsName (queryBy (now (names .entry)) q) ⌝ }
-{
-    let matching = q.matching;
-    if query::resets_name(q) {
-        return false;
-    }
-    match matching {
-        Matching::All => true,
-        Matching::On => {
-            if q.keep_names {
-                true
-            } else {
-                labels::in_list(names, b"__name__")
-            }
-        }
-        Matching::Ignoring => !labels::in_list(names, b"__name__"),
-    }
-}
-
-// The size of a left record once it is edited.
-pub fn adjusted_size(rec: &[u8], q: Query, names: &[u8]) -> Size
-    requires { ⌜ InOrder (labelsOf (now rec)) ⌝ }
-    ensures { λ r. ⌜ Sized (adjustBinaryOpTags (queryBy (now (names .entry)) q) (labelsOf (now (rec .entry)))) r ⌝ }
-{
-    let matching = q.matching;
-    let keep = keeps_name(q, names);
-    label_edits::kept_size(rec, matching, names, keep)
-}
-
-// Writes a left record edited, and gives the place behind it.
-pub fn adjust_binary_op_tags(out: &mut [u8], at: usize, rec: &[u8], q: Query, names: &[u8]) -> usize
-    requires { ⌜ InOrder (labelsOf (now rec)) ⌝ }
-    requires { ⌜ at + length (encode (adjustBinaryOpTags (queryBy (now names) q) (labelsOf (now rec)))) ≤ length (now out) ⌝ }
-    ensures { λ r. ⌜ Put (now (out .entry)) at (encode (adjustBinaryOpTags (queryBy (now (names .entry)) q) (labelsOf (now (rec .entry))))) (now (out .exit)) r ⌝ }
-{
-    let matching = q.matching;
-    let keep = keeps_name(q, names);
-    label_edits::put_kept(out, at, rec, matching, names, keep)
-}
-
-// Whether a left series is the first of a key that stands on both sides.
-fn is_pair(lkeys: &[usize], rkeys: &[usize], i: usize) -> bool
-    requires { ⌜ i < length (now lkeys) ⌝ }
-    ensures { λ r. ⌜ r ≡ isPair (now (lkeys .entry)) (now (rkeys .entry)) (getD (now (lkeys .entry)) i 0) i ⌝ }
-{
-    let k = lkeys[i];
-    if k == timeseries::DROPPED {
-        return false;
-    }
-    if timeseries::first_of(lkeys, k) != i {
-        return false;
-    }
-    timeseries::first_of(rkeys, k) < rkeys.len()
-}
-
-// The series of a key merged in a work row.
-fn try_last(
-    rows: &[u64],
-    keys: &[usize],
+// The operator on a left row and the right side's row of a key, whose series are merged in a work row.
+fn with_merged_right(
+    op: Operator,
+    bool: bool,
+    left: &[u64],
+    right: &[u64],
+    rkeys: &[usize],
     k: usize,
-    p: usize,
     allowance: usize,
     work: &mut [u64],
-) -> Merges
-    requires { ⌜ Level p (now rows) (now keys) ⌝ }
-    requires { ⌜ firstOf (now keys) k < length (now keys) ⌝ }
-    requires { ⌜ p ≤ length (now work) ⌝ }
-    ensures { λ r. ⌜ failedIn r ≡ failureOf (mergeLast allowance p (now (rows .entry)) (now (keys .entry)) k) ⌝ }
+    out: &mut [u64],
+)
+    requires { ⌜ SideMerged allowance (length (now out)) (now right) (now rkeys) k ⌝ }
+    requires { ⌜ length (now left) ≡ length (now out) ⌝ }
+    requires { ⌜ length (now work) ≡ length (now out) ⌝ }
+    ensures { λ _. ⌜ now (work .exit) ≡ sideRow allowance (length (now (out .entry))) (now (right .entry)) (now (rkeys .entry)) k ⌝ }
+    ensures { λ _. ⌜ now (out .exit) ≡ zipWith (scalarOp op bool) (now (left .entry)) (sideRow allowance (length (now (out .entry))) (now (right .entry)) (now (rkeys .entry)) k) ⌝ }
 {
-    merging::merge_last(rows, keys, k, allowance, &mut work[..p])
+    merging::merge_last(right, rkeys, k, allowance, work);
+    rows::apply_rows(op, bool, left, work, out);
 }
 
-// Whether the series of a key on one side become a single one.
-fn ensure_single_timeseries(
-    rows: &[u64],
-    keys: &[usize],
+// The operator on a left row and the right side's row of a key. A side of one series goes to the operator as it is.
+fn with_right(
+    op: Operator,
+    bool: bool,
+    left: &[u64],
+    right: &[u64],
+    rkeys: &[usize],
     k: usize,
-    p: usize,
     allowance: usize,
-) -> Merges
-    requires { ⌜ Level p (now rows) (now keys) ⌝ }
-    requires { ⌜ firstOf (now keys) k < length (now keys) ⌝ }
-    ensures { λ r. ⌜ failedIn r ≡ failureOf (mergeLast allowance p (now (rows .entry)) (now (keys .entry)) k) ⌝ }
+    out: &mut [u64],
+)
+    requires { ⌜ SideMerged allowance (length (now out)) (now right) (now rkeys) k ⌝ }
+    requires { ⌜ length (now left) ≡ length (now out) ⌝ }
+    ensures { λ _. ⌜ now (out .exit) ≡ zipWith (scalarOp op bool) (now (left .entry)) (sideRow allowance (length (now (out .entry))) (now (right .entry)) (now (rkeys .entry)) k) ⌝ }
 {
-    if merging::is_single(keys, k) {
-        return Merges::Done;
+    let p = out.len();
+    if merging::is_single(rkeys, k) {
+        let j = timeseries::last_of(rkeys, k);
+        rows::apply_rows(op, bool, left, timeseries::row(right, p, j), out);
+        return;
     }
     let mut work = [0u64; 1024];
-    try_last(rows, keys, k, p, allowance, &mut work)
+    with_merged_right(
+        op,
+        bool,
+        left,
+        right,
+        rkeys,
+        k,
+        allowance,
+        &mut work[..p],
+        out,
+    );
 }
 
-// What the merges of both sides of a pair come to.
-pub enum Checked {
-    Fine,
-    Left { kept: usize, failed: usize },
-    Right { kept: usize, failed: usize },
-}
-
-// Both sides of a key, the left one first.
-fn check_pair(
+// The answer row of a key whose left series are merged in a work row.
+fn merged_pair_row(
+    op: Operator,
+    bool: bool,
     left: &[u64],
     lkeys: &[usize],
     right: &[u64],
     rkeys: &[usize],
     k: usize,
-    p: usize,
     allowance: usize,
-) -> Checked
-    requires { ⌜ PairSides p (now left) (now lkeys) (now right) (now rkeys) ⌝ }
-    requires { ⌜ firstOf (now lkeys) k < length (now lkeys) ⌝ }
-    requires { ⌜ firstOf (now rkeys) k < length (now rkeys) ⌝ }
-    ensures { λ r. ⌜ clashIn r ≡ pairClash allowance (sidesOf p (now (left .entry)) (now (lkeys .entry)) (now (right .entry)) (now (rkeys .entry))) k ⌝ }
+    work: &mut [u64],
+    out: &mut [u64],
+)
+    requires { ⌜ SideMerged allowance (length (now out)) (now left) (now lkeys) k ⌝ }
+    requires { ⌜ SideMerged allowance (length (now out)) (now right) (now rkeys) k ⌝ }
+    requires { ⌜ length (now work) ≡ length (now out) ⌝ }
+    ensures { λ _. ⌜ now (work .exit) ≡ sideRow allowance (length (now (out .entry))) (now (left .entry)) (now (lkeys .entry)) k ⌝ }
+    ensures { λ _. ⌜ now (out .exit) ≡ zipWith (scalarOp op bool) (sideRow allowance (length (now (out .entry))) (now (left .entry)) (now (lkeys .entry)) k) (sideRow allowance (length (now (out .entry))) (now (right .entry)) (now (rkeys .entry)) k) ⌝ }
 {
-    match ensure_single_timeseries(left, lkeys, k, p, allowance) {
-        Merges::FailedAt(failed) => Checked::Left {
-            kept: timeseries::last_of(lkeys, k),
-            failed,
-        },
-        Merges::Done => match ensure_single_timeseries(right, rkeys, k, p, allowance) {
-            Merges::FailedAt(failed) => Checked::Right {
-                kept: timeseries::last_of(rkeys, k),
-                failed,
-            },
-            Merges::Done => Checked::Fine,
-        },
-    }
+    merging::merge_last(left, lkeys, k, allowance, work);
+    with_right(op, bool, work, right, rkeys, k, allowance, out);
 }
 
-// The merges of the answer series that a left place gives, if it gives one.
-fn check_at(
+// The answer row of the key of a left place.
+fn pair_row(
+    op: Operator,
+    bool: bool,
     left: &[u64],
     lkeys: &[usize],
     right: &[u64],
     rkeys: &[usize],
-    i: usize,
-    p: usize,
+    j: usize,
     allowance: usize,
-) -> Checked
-    requires { ⌜ PairSides p (now left) (now lkeys) (now right) (now rkeys) ⌝ }
-    requires { ⌜ i < length (now lkeys) ⌝ }
-    ensures { λ r. ⌜ clashIn r ≡ clashAt allowance (sidesOf p (now (left .entry)) (now (lkeys .entry)) (now (right .entry)) (now (rkeys .entry))) i (getD (now (lkeys .entry)) i 0) ⌝ }
+    out: &mut [u64],
+)
+    requires { ⌜ Paired allowance (sidesOf (length (now out)) (now left) (now lkeys) (now right) (now rkeys)) j ⌝ }
+    ensures { λ _. ⌜ now (out .exit) ≡ pairedRow op bool allowance (sidesOf (length (now (out .entry))) (now (left .entry)) (now (lkeys .entry)) (now (right .entry)) (now (rkeys .entry))) j ⌝ }
 {
-    if is_pair(lkeys, rkeys, i) {
-        check_pair(left, lkeys, right, rkeys, lkeys[i], p, allowance)
-    } else {
-        Checked::Fine
+    let p = out.len();
+    let k = lkeys[j];
+    if merging::is_single(lkeys, k) {
+        let last = timeseries::last_of(lkeys, k);
+        with_right(
+            op,
+            bool,
+            timeseries::row(left, p, last),
+            right,
+            rkeys,
+            k,
+            allowance,
+            out,
+        );
+        return;
     }
+    let mut work = [0u64; 1024];
+    merged_pair_row(
+        op,
+        bool,
+        left,
+        lkeys,
+        right,
+        rkeys,
+        k,
+        allowance,
+        &mut work[..p],
+        out,
+    );
 }
 
-// Every merge, in answer order, up to the first that fails.
-pub fn check_pairs(
+// Writes the answer rows of left places, each into its own part.
+fn put_pair_rows(
+    op: Operator,
+    bool: bool,
     left: &[u64],
     lkeys: &[usize],
     right: &[u64],
     rkeys: &[usize],
+    list: &[usize],
     p: usize,
     allowance: usize,
-) -> Checked
-    requires { ⌜ PairSides p (now left) (now lkeys) (now right) (now rkeys) ⌝ }
-    ensures { λ r. ⌜ clashIn r ≡ pairsClash allowance (sidesOf p (now (left .entry)) (now (lkeys .entry)) (now (right .entry)) (now (rkeys .entry))) 0 (now (lkeys .entry)) ⌝ }
+    out: &mut [u64],
+)
+    requires { ⌜ PairedRows allowance (sidesOf p (now left) (now lkeys) (now right) (now rkeys)) (now list) ⌝ }
+    requires { ⌜ length (now list) * p ≤ length (now out) ⌝ }
+    ensures { λ _. ⌜ now (out .exit) ≡ startingWith (gather (pairedRow op bool allowance (sidesOf p (now (left .entry)) (now (lkeys .entry)) (now (right .entry)) (now (rkeys .entry)))) (now (list .entry))) (now (out .entry)) ⌝ }
 {
-    let mut i: usize = 0;
-    while i < lkeys.len() {
-        match check_at(left, lkeys, right, rkeys, i, p, allowance) {
-            Checked::Fine => {
-                i += 1;
-            }
-            Checked::Left { kept, failed } => return Checked::Left { kept, failed },
-            Checked::Right { kept, failed } => return Checked::Right { kept, failed },
-        }
-    }
-    Checked::Fine
-}
-
-// Notes the left place whose labels an answer series has, if place i gives one.
-fn list_pair(lkeys: &[usize], rkeys: &[usize], i: usize, list: &mut [usize], n: usize) -> usize
-    requires { ⌜ i < length (now lkeys) ⌝ }
-    requires { ⌜ n < length (now list) ⌝ }
-    ensures { λ r. ⌜ Put (now (list .entry)) n (pairAt (now (lkeys .entry)) (now (rkeys .entry)) i (getD (now (lkeys .entry)) i 0)) (now (list .exit)) r ⌝ }
-{
-    if is_pair(lkeys, rkeys, i) {
-        list[n] = timeseries::last_of(lkeys, lkeys[i]);
-        return n + 1;
-    }
-    n
-}
-
-// Notes the left places whose labels the answer has, in answer order, and gives their number.
-pub fn list_pairs(lkeys: &[usize], rkeys: &[usize], list: &mut [usize]) -> usize
-    requires { ⌜ length (now lkeys) ≤ length (now list) ⌝ }
-    ensures { λ r. ⌜ Put (now (list .entry)) 0 (pairsFrom (now (lkeys .entry)) (now (rkeys .entry)) 0 (now (lkeys .entry))) (now (list .exit)) r ⌝ }
-{
-    let mut n: usize = 0;
-    let mut i: usize = 0;
-    while i < lkeys.len() {
-        n = list_pair(lkeys, rkeys, i, list, n);
-        i += 1;
-    }
-    n
-}
-
-// What the edited labels of rows come to.
-pub fn tally_pairs(array: &[u8], at: &[usize], rows: &[usize], q: Query, names: &[u8]) -> Tally
-    requires { ⌜ LeftLabels (now array) (now at) ⌝ }
-    requires { ⌜ PlacesIn (now rows) (now at) ⌝ }
-    ensures { λ r. ⌜ TallyOf (pairLabels (queryBy (now (names .entry)) q) (labelsIn (now (array .entry)) (now (at .entry)))) (now (rows .entry)) r ⌝ }
-{
-    let mut t = Tally {
-        bytes: 0,
-        wide: false,
-    };
     let mut r: usize = 0;
-    while r < rows.len() {
-        let rec = timeseries::record(array, at, rows[r]);
-        t = answers::tallied(t, adjusted_size(rec, q, names));
+    while r < list.len() {
+        let from = r * p;
+        let to = from + p;
+        pair_row(
+            op,
+            bool,
+            left,
+            lkeys,
+            right,
+            rkeys,
+            list[r],
+            allowance,
+            &mut out[from..to],
+        );
         r += 1;
     }
-    t
 }
 
-// Writes the edited labels of rows one behind another, and gives their bytes.
-pub fn put_pair_labels(
-    array: &[u8],
-    at: &[usize],
-    rows: &[usize],
+// Writes the records and the rows of left places, and gives the bytes of the records.
+fn put_pairs(
     q: Query,
     names: &[u8],
-    out: &mut [u8],
+    p: usize,
+    array: &[u8],
+    at: &[usize],
+    lkeys: &[usize],
+    left: &[u64],
+    rkeys: &[usize],
+    right: &[u64],
+    list: &[usize],
+    labels: &mut [u8],
+    out: &mut [u64],
 ) -> usize
-    requires { ⌜ LeftLabels (now array) (now at) ⌝ }
-    requires { ⌜ PlacesIn (now rows) (now at) ⌝ }
-    requires { ⌜ length (recordsOf (pairLabels (queryBy (now names) q) (labelsIn (now array) (now at))) (now rows)) ≤ length (now out) ⌝ }
-    ensures { λ r. ⌜ LabelsPut (pairLabels (queryBy (now (names .entry)) q) (labelsIn (now (array .entry)) (now (at .entry)))) (now (rows .entry)) (now (out .entry)) (now (out .exit)) r ⌝ }
+    requires { ⌜ Listed p (now array) (now at) (now lkeys) (now left) (now rkeys) (now right) (now list) ⌝ }
+    requires { ⌜ length (recordsOf (pairLabels (queryBy (now names) q) (labelsIn (now array) (now at))) (now list)) ≤ length (now labels) ⌝ }
+    requires { ⌜ length (now list) * p ≤ length (now out) ⌝ }
+    ensures { λ r. ⌜ PairsPut (queryBy (now (names .entry)) q) (sidesOf p (now (left .entry)) (now (lkeys .entry)) (now (right .entry)) (now (rkeys .entry))) (labelsIn (now (array .entry)) (now (at .entry))) (now (list .entry)) (now (labels .entry)) (now (labels .exit)) (now (out .entry)) (now (out .exit)) r ⌝ }
 {
-    let mut o: usize = 0;
-    let mut r: usize = 0;
-    while r < rows.len() {
-        let rec = timeseries::record(array, at, rows[r]);
-        o = adjust_binary_op_tags(out, o, rec, q, names);
-        r += 1;
+    let op = q.operator;
+    put_pair_rows(
+        op,
+        q.bool,
+        left,
+        lkeys,
+        right,
+        rkeys,
+        list,
+        p,
+        pairs::ALLOWED_OVERLAPS,
+        out,
+    );
+    pairs::put_pair_labels(array, at, list, q, names, labels)
+}
+
+// The answer of left places, written where it fits.
+fn answer_pairs(
+    q: Query,
+    names: &[u8],
+    p: usize,
+    array: &[u8],
+    at: &[usize],
+    lkeys: &[usize],
+    left: &[u64],
+    rkeys: &[usize],
+    right: &[u64],
+    list: &[usize],
+    labels: &mut [u8],
+    out: &mut [u64],
+) -> Outcome
+    requires { ⌜ Listed p (now array) (now at) (now lkeys) (now left) (now rkeys) (now right) (now list) ⌝ }
+    ensures { λ r. ⌜ Ran (answerOf (queryBy (now (names .entry)) q) (length (now (labels .entry))) (length (now (out .entry))) (sidesOf p (now (left .entry)) (now (lkeys .entry)) (now (right .entry)) (now (rkeys .entry))) (labelsIn (now (array .entry)) (now (at .entry))) (now (list .entry))) (now (labels .entry)) (now (out .entry)) (now (labels .exit)) (now (out .exit)) r ⌝ }
+{
+    let t = pairs::tally_pairs(array, at, list, q, names);
+    match answers::room_for(list.len(), p, t, labels.len(), out.len()) {
+        Room::TooLarge => Outcome::TooLarge,
+        Room::TooLong => Outcome::TooLong,
+        Room::Fits => {
+            let bytes = put_pairs(
+                q,
+                names,
+                p,
+                array,
+                at,
+                lkeys,
+                left,
+                rkeys,
+                right,
+                list,
+                labels,
+                out,
+            );
+            Outcome::Answer {
+                series: list.len(),
+                points: p,
+                bytes,
+            }
+        }
     }
-    o
+}
+
+// The answer of all pairs, where no merge fails.
+fn answer_all(
+    q: Query,
+    names: &[u8],
+    p: usize,
+    array: &[u8],
+    at: &[usize],
+    lkeys: &[usize],
+    left: &[u64],
+    rkeys: &[usize],
+    right: &[u64],
+    labels: &mut [u8],
+    out: &mut [u64],
+) -> Outcome
+    requires { ⌜ Clear p (now array) (now at) (now lkeys) (now left) (now rkeys) (now right) ⌝ }
+    ensures { λ r. ⌜ Ran (answerOf (queryBy (now (names .entry)) q) (length (now (labels .entry))) (length (now (out .entry))) (sidesOf p (now (left .entry)) (now (lkeys .entry)) (now (right .entry)) (now (rkeys .entry))) (labelsIn (now (array .entry)) (now (at .entry))) (pairsFrom (now (lkeys .entry)) (now (rkeys .entry)) 0 (now (lkeys .entry)))) (now (labels .entry)) (now (out .entry)) (now (labels .exit)) (now (out .exit)) r ⌝ }
+{
+    let mut list = [0usize; 512];
+    let n = pairs::list_pairs(lkeys, rkeys, &mut list);
+    answer_pairs(
+        q,
+        names,
+        p,
+        array,
+        at,
+        lkeys,
+        left,
+        rkeys,
+        right,
+        &list[..n],
+        labels,
+        out,
+    )
+}
+
+// Runs a one-to-one query on two sides with their key numbers: every merge is tried first, then the answer is written where it fits.
+pub fn run_pairs(
+    q: Query,
+    names: &[u8],
+    p: usize,
+    array: &[u8],
+    at: &[usize],
+    lkeys: &[usize],
+    left: &[u64],
+    rkeys: &[usize],
+    right: &[u64],
+    labels: &mut [u8],
+    out: &mut [u64],
+) -> Outcome
+    requires { ⌜ PairSides p (now left) (now lkeys) (now right) (now rkeys) ⌝ }
+    requires { ⌜ LeftLabels (now array) (now at) ⌝ }
+    requires { ⌜ length (now at) ≡ length (now lkeys) + 1 ⌝ }
+    ensures { λ r. ⌜ Ran (oneToOne (queryBy (now (names .entry)) q) (length (now (labels .entry))) (length (now (out .entry))) (sidesOf p (now (left .entry)) (now (lkeys .entry)) (now (right .entry)) (now (rkeys .entry))) (labelsIn (now (array .entry)) (now (at .entry)))) (now (labels .entry)) (now (out .entry)) (now (labels .exit)) (now (out .exit)) r ⌝ }
+{
+    match pairs::check_pairs(left, lkeys, right, rkeys, p, pairs::ALLOWED_OVERLAPS) {
+        Checked::Left { kept, failed } => Outcome::LeftTwice { kept, failed },
+        Checked::Right { kept, failed } => Outcome::RightTwice { kept, failed },
+        Checked::Fine => answer_all(
+            q,
+            names,
+            p,
+            array,
+            at,
+            lkeys,
+            left,
+            rkeys,
+            right,
+            labels,
+            out,
+        ),
+    }
 }

@@ -1,0 +1,25 @@
+-- `pair_row` meets its contract. Assumes nothing.
+use mathlib.Core.Path.{sym}
+use Rattle.pairs.proofs.Checks.{part-wide}
+use Rattle.one_to_one.proofs.Rows.{side-room, side-wide, with-single-left}
+use borrow.Author.Needs.{needs}
+use Rattle.one_to_one.proofs.pair_row.Statement.{statement}
+use Rattle.one_to_one.proofs.pair_row.Tie as tie
+
+pub pair-row-spec : {M : Type 1} → statement M
+pair-row-spec =
+    tie.close
+    (tie.spec
+    (λ c. search needs)
+    (λ c. search needs)
+    (λ c κs. search needs)
+    (λ c κs. search needs)
+    (λ c κs. search side-room)
+    (λ c κs. (search needs, search side-wide))
+    (λ c. search needs)
+    (λ c. search with-single-left)
+    (λ c. search needs)
+    (λ c. part-wide _ _ (search needs))
+    (λ c κs. (search needs, (search needs, sym (part-wide _ _ (search needs)))))
+    (λ c. search needs)
+    (λ c. search needs))

@@ -1,0 +1,38 @@
+-- `put_pair_rows` meets its contract. Assumes nothing.
+use Prim.Native.Nat.{_-_}
+use lib.ListN.{length}
+use Rattle.answers.proofs.Rows.{RowsWriting, row-within, rows-length, rows-end}
+use Rattle.pairs.specs.Pairing.{sidesOf}
+use Rattle.one_to_one.specs.Rows.{pairedRow}
+use Rattle.one_to_one.proofs.Parts.{from-fits, to-fits, bytes-fit, parts-start, part-paired, parts-turn}
+use borrow.Author.Needs.{needs}
+use Rattle.one_to_one.proofs.put_pair_rows.Statement.{statement}
+use Rattle.one_to_one.proofs.put_pair_rows.Tie as tie
+
+abbrev Inv-loop : tie.InvT-loop
+Inv-loop op bool left lkeys right rkeys list p allowance out₀ r₀ out r = RowsWriting (pairedRow op bool allowance (sidesOf p left lkeys right rkeys)) p list out₀ r out
+
+abbrev μ-loop : tie.MeasureT-loop
+μ-loop op bool left lkeys right rkeys list p allowance out₀ r₀ out r = length list - r
+
+pub put-pair-rows-spec : {M : Type 1} → statement M
+put-pair-rows-spec =
+    tie.close
+    (tie.spec
+    Inv-loop
+    μ-loop
+    (λ c. search parts-start)
+    (λ c. search from-fits)
+    (λ c. search to-fits)
+    (λ c. search needs)
+    (λ c. search needs)
+    (λ c. search bytes-fit)
+    (λ c. search needs)
+    (λ c. search needs)
+    (λ c. search row-within)
+    (λ c κs. search part-paired)
+    (λ c. search needs)
+    (λ c. search needs)
+    (λ c. search parts-turn)
+    (λ c. search rows-length)
+    (λ c. search rows-end))

@@ -1,0 +1,4 @@
+pub mod Edits
+pub mod Checks
+pub mod Lists
+pub mod Records

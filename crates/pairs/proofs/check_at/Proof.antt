@@ -1,0 +1,16 @@
+-- `check_at` meets its contract. Assumes nothing.
+use Rattle.pairs.proofs.Checks.{pair-left, pair-right, at-pair, at-none}
+use borrow.Author.Needs.{needs}
+use Rattle.pairs.proofs.check_at.Statement.{statement}
+use Rattle.pairs.proofs.check_at.Tie as tie
+
+pub check-at-spec : {M : Type 1} → statement M
+check-at-spec =
+    tie.close
+    (tie.spec
+    (λ c κs. search needs)
+    (λ c. search needs)
+    (λ c. search needs)
+    (λ c κs. (search needs, (search pair-left, search pair-right)))
+    (λ c. search at-pair)
+    (λ c. search at-none))

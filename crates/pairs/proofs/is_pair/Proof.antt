@@ -1,0 +1,17 @@
+-- `is_pair` meets its contract. Assumes nothing.
+use Rattle.pairs.proofs.Checks.{pair-dropped, pair-later, pair-told}
+use borrow.Author.Needs.{needs}
+use Rattle.pairs.proofs.is_pair.Statement.{statement}
+use Rattle.pairs.proofs.is_pair.Tie as tie
+
+pub is-pair-spec : {M : Type 1} → statement M
+is-pair-spec =
+    tie.close
+    (tie.spec
+    (λ c. search needs)
+    (λ c. search needs)
+    (λ c. search pair-dropped)
+    (λ c κs. search needs)
+    (λ c. search pair-later)
+    (λ c κs. search needs)
+    (λ c. search pair-told))

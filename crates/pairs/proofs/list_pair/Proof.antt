@@ -1,0 +1,20 @@
+-- `list_pair` meets its contract. Assumes nothing.
+use Rattle.pairs.proofs.Lists.{list-one, list-none}
+use borrow.Author.Needs.{needs}
+use Rattle.pairs.proofs.list_pair.Statement.{statement}
+use Rattle.pairs.proofs.list_pair.Tie as tie
+
+pub list-pair-spec : {M : Type 1} → statement M
+list-pair-spec =
+    tie.close
+    (tie.spec
+    (λ c κs. search needs)
+    (λ c. search needs)
+    (λ c. search needs)
+    (λ c κs. search needs)
+    (λ c. search needs)
+    (λ c. search needs)
+    (λ c. search needs)
+    (λ c. search needs)
+    (λ c. search list-one)
+    (λ c. search list-none))
