@@ -31,7 +31,7 @@ series-by : (b : Bool) (l m : Labels) (x y : List ℕ) → _≡_ {A = Series} (r
 series-by true l m x y = refl
 series-by false l m x y = refl
 
-map-same : (S T : ℕ → Series) → ((x : ℕ) → S x ≡ T x) → (rows : List ℕ) → map S rows ≡ map T rows
+pub map-same : (S T : ℕ → Series) → ((x : ℕ) → S x ≡ T x) → (rows : List ℕ) → map S rows ≡ map T rows
 map-same S T h [] = refl
 map-same S T h (x ∷ rows) = rw (h x, map-same S T h rows)
 

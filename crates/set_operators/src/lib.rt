@@ -81,3 +81,46 @@ fn answer_rows(
         }
     }
 }
+
+// Answers with the series of a set rule.
+fn run_set(
+    rule: SetRule,
+    falls: bool,
+    adds: bool,
+    p: usize,
+    llabels: &[u8],
+    lat: &[usize],
+    lkeys: &[usize],
+    left: &[u64],
+    rlabels: &[u8],
+    rat: &[usize],
+    rkeys: &[usize],
+    right: &[u64],
+    labels: &mut [u8],
+    out: &mut [u64],
+) -> Outcome
+    requires { ⌜ BothLent falls p (now llabels) (now lat) (now lkeys) (now left) (now rlabels) (now rat) (now rkeys) (now right) ⌝ }
+    ensures { λ r. ⌜ SetAnswered (lentSides (meant rule) falls adds p (now (llabels .entry)) (now (lat .entry)) (now (lkeys .entry)) (now (left .entry)) (now (rlabels .entry)) (now (rat .entry)) (now (rkeys .entry)) (now (right .entry))) (now (labels .entry)) (now (out .entry)) (now (labels .exit)) (now (out .exit)) r ⌝ }
+{
+    let mut list = [0usize; 512];
+    let n = set_rules::list_rows(rule, falls, adds, p, lkeys, left, rkeys, right, &mut list);
+    if 512 < n {
+        return Outcome::TooLarge;
+    }
+    answer_rows(
+        rule,
+        falls,
+        p,
+        llabels,
+        lat,
+        lkeys,
+        left,
+        rlabels,
+        rat,
+        rkeys,
+        right,
+        &list[..n],
+        labels,
+        out,
+    )
+}
