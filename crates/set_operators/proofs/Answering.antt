@@ -1,6 +1,6 @@
 -- The rows of an answer measured and written, by the outcome of their measure. Assumes nothing.
-use Prim.Native.Nat.{ℕ, _+_, _-_, _*_, _≤_, _<_}
-use mathlib.Core.Path.{_≡_, refl, sym, ap, _∙_}
+use Prim.Native.Nat.{ℕ, _+_, _-_, _*_, _≤_}
+use mathlib.Core.Path.{_≡_, refl, sym, _∙_}
 use mathlib.Core.Bool.{Bool, true, false, cond, _||_}
 use mathlib.Core.List.{List, [], _∷_, map}
 use native.Mathlib.Omega.{arith}
@@ -9,7 +9,6 @@ use lib.ListN.{length}
 use borrow.Author.Tests.{ltb-false}
 use Rattle.operator.specs.Kinds.{SetRule}
 use Rattle.model.specs.Limits.{maxLabelBytes}
-use Rattle.model.specs.Lists.{gather}
 use Rattle.model.specs.Labels.{Labels}
 use Rattle.model.specs.Vector.{Series}
 use Rattle.plan.specs.Sets.{setSeries}
@@ -18,12 +17,11 @@ use Rattle.answers.specs.declared.Outcome.the-variants as Out
 use Rattle.answers.specs.declared.Tally.{Tally}
 use Rattle.answers.specs.declared.Room.{Room}
 use Rattle.answers.specs.declared.Room.the-variants as Room
-use Rattle.answers.specs.Outcomes.{startingWith}
-use Rattle.answers.specs.Tallies.{TallyOf, recordsOf, roomOf}
+use Rattle.answers.specs.Tallies.{TallyOf, roomOf}
 use Rattle.answers.proofs.Concluding.{ran-too-large, ran-too-long, ran-answer}
 use Rattle.set_kernels.specs.Places.{RightSide}
-use Rattle.set_rules.specs.Sides.{LentSide, RecordSide, RowSide, lentSides, rowSides, rowLabels, rowReadings, RowsBelow, RecordsPut}
-use Rattle.set_operators.specs.Answers.{BothLent, RowsLent, rowSeries, Roomy, AnswerPut, RowsAnswered}
+use Rattle.set_rules.specs.Sides.{lentSides, rowLabels, RowsBelow}
+use Rattle.set_operators.specs.Answers.{RowsLent, rowSeries, Roomy, AnswerPut, RowsAnswered}
 
 -- a row's series by its parts is the one of the plan
 

@@ -1,6 +1,6 @@
 -- The rows of a set rule, listed in an array: those of both sides, and no more than the array has. Assumes nothing.
 use Prim.Native.Nat.{ℕ, zero, suc, _+_, _≤_, _<_}
-use mathlib.Core.Path.{_≡_, refl, sym, ap, _∙_}
+use mathlib.Core.Path.{_≡_, sym, ap}
 use mathlib.Core.Bool.{Bool, true, false, cond}
 use mathlib.Core.List.{List, [], _∷_, _++_, map}
 use native.Mathlib.Omega.{arith}
@@ -20,7 +20,6 @@ use Rattle.set_kernels.proofs.Noting.{noted-front}
 use Rattle.set_rules.specs.Sides.{lentSides, rowSides, RowsBelow}
 use Rattle.set_rules.proofs.Listing.{lefts-varied}
 use Rattle.set_operators.specs.Answers.{BothLent, RowsLent, RowsAnswered, SetAnswered}
-use Rattle.set_operators.proofs.Answering.{map-same}
 
 -- rows below a number
 
