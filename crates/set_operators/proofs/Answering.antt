@@ -21,7 +21,7 @@ use Rattle.answers.specs.Tallies.{TallyOf, roomOf}
 use Rattle.answers.proofs.Concluding.{ran-too-large, ran-too-long, ran-answer}
 use Rattle.set_kernels.specs.Places.{RightSide}
 use Rattle.set_rules.specs.Sides.{lentSides, rowLabels, RowsBelow}
-use Rattle.set_operators.specs.Answers.{RowsLent, rowSeries, Roomy, AnswerPut, RowsAnswered}
+use Rattle.set_operators.specs.Answers.{BothLent, RowsLent, rowSeries, Roomy, AnswerPut, RowsAnswered}
 
 -- a row's series by its parts is the one of the plan
 
@@ -29,7 +29,7 @@ series-by : (b : Bool) (l m : Labels) (x y : List ℕ) → _≡_ {A = Series} (r
 series-by true l m x y = refl
 series-by false l m x y = refl
 
-pub map-same : (S T : ℕ → Series) → ((x : ℕ) → S x ≡ T x) → (rows : List ℕ) → map S rows ≡ map T rows
+map-same : (S T : ℕ → Series) → ((x : ℕ) → S x ≡ T x) → (rows : List ℕ) → map S rows ≡ map T rows
 map-same S T h [] = refl
 map-same S T h (x ∷ rows) = rw (h x, map-same S T h rows)
 
@@ -46,14 +46,10 @@ fits-room large n m k l h = go large (ltb n m) (ltb k l) h (ltb-false n m) (ltb-
 
 -- both sides and the rows, as the parts of the answer take them
 
-module _ {falls : Bool} {p : ℕ} {larray lat lkeys left array at keys rows list : List ℕ} (lent : RowsLent falls p larray lat lkeys left array at keys rows list) where
-  pub right-side : RightSide falls p keys rows
-  right-side = record {
-    few = lent .sides .rightSide .readings .few;
-    size = lent .sides .rightSide .readings .size;
-    some = lent .sides .some;
-  }
+pub right-lent : {falls : Bool} {p : ℕ} {larray lat lkeys left array at keys rows : List ℕ} → BothLent falls p larray lat lkeys left array at keys rows → RightSide falls p keys rows
+right-lent lent = record { few = lent .rightSide .readings .few; size = lent .rightSide .readings .size; some = lent .some }
 
+module _ {falls : Bool} {p : ℕ} {larray lat lkeys left array at keys rows list : List ℕ} (lent : RowsLent falls p larray lat lkeys left array at keys rows list) where
   pub rows-below : RowsBelow (length lat - 1 + (length at - 1)) list
   rows-below = record { each = λ i h. omega (arith, lent .below .each i h, lent .sides .leftSide .count, lent .sides .rightSide .count) }
 

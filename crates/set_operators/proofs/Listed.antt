@@ -15,7 +15,7 @@ use Rattle.timeseries.specs.Sides.{labelsIn}
 use Rattle.answers.specs.declared.Outcome.{Outcome}
 use Rattle.answers.specs.declared.Outcome.the-variants as Out
 use Rattle.answers.proofs.Concluding.{ran-too-many}
-use Rattle.set_kernels.specs.Places.{NotedAll, RightSide}
+use Rattle.set_kernels.specs.Places.{NotedAll}
 use Rattle.set_kernels.proofs.Noting.{noted-front}
 use Rattle.set_rules.specs.Sides.{lentSides, rowSides, RowsBelow}
 use Rattle.set_rules.proofs.Listing.{lefts-varied}
@@ -62,12 +62,9 @@ set-below s =
     go true = rights-below _ (s .leftKeys) 0 (s .rightKeys) (omega arith)
     go false = below-none _
 
--- both sides, as the list of rows takes them
+-- the rows listed
 
 module _ {falls : Bool} {p : ℕ} {larray lat lkeys left array at keys rows : List ℕ} (lent : BothLent falls p larray lat lkeys left array at keys rows) where
-  pub right-lent : RightSide falls p keys rows
-  right-lent = record { few = lent .rightSide .readings .few; size = lent .rightSide .readings .size; some = lent .some }
-
   module _ (rule : SetRule) (adds : Bool) {before after : List ℕ} {n : ℕ} (noted : NotedAll (setRows (rowSides rule falls adds p lkeys left keys rows)) 0 before after n) where
     same-rows : setRows (lentSides rule falls adds p larray lat lkeys left array at keys rows) ≡ setRows (rowSides rule falls adds p lkeys left keys rows)
     same-rows = rw (lefts-varied (rowSides rule falls adds p lkeys left keys rows) adds (labelsIn larray lat) (labelsIn array at) 0 lkeys)

@@ -1,36 +1,26 @@
+-- `answer_rows` meets its contract. Assumes nothing.
 use Rattle.set_operators.proofs.Answering.{rows-below, rows-too-large, rows-too-long, rows-roomy, rows-answered}
 use borrow.Author.Needs.{needs}
 use Rattle.set_operators.proofs.answer_rows.Statement.{statement}
 use Rattle.set_operators.proofs.answer_rows.Tie as tie
-use Rattle.set_operators.proofs.answer_rows.Reads as reads
-use Rattle.set_operators.proofs.answer_rows.Lts as lts
-use Rattle.answers.proofs.room_for.Reads as room-for-reads
-use Rattle.set_operators.proofs.put_answer.Reads as put-answer-reads
-use Rattle.set_rules.proofs.tally_rows.Reads as tally-rows-reads
 
--- src/lib.rt:54:9
 tally-rows-requires : tie.Need-tally-rows-requires
 tally-rows-requires c κs =
     let lent = c .before .before .before .before .before .before .before .before .before .before .before .pre in
     (lent .sides .leftSide .records, (lent .sides .rightSide .records, (rows-below lent, lent .few)))
 
--- src/lib.rt:55:11
 room-for-requires : tie.Need-room-for-requires
 room-for-requires c κs = search needs
 
--- src/lib.rt:56:27
 enum-told : tie.Need-enum-told
 enum-told c = search needs
 
--- src/lib.rt:57:26
 enum-told-2 : tie.Need-enum-told-2
 enum-told-2 c = search needs
 
--- src/lib.rt:72:17
 enum-told-3 : tie.Need-enum-told-3
 enum-told-3 c = search needs
 
--- src/lib.rt:59:17
 put-answer-requires : tie.Need-put-answer-requires
 put-answer-requires c κs =
     let lent = c .before .before .before .before .before .before .before .before .before .before .before .before .before .before .before .before .before .pre in
@@ -39,7 +29,6 @@ put-answer-requires c κs =
     let told = c .before .before .enum-told3 .given .1 in
     (lent, rows-roomy lent _ _ _ _ tally _ asked told)
 
--- src/lib.rt:35:1
 returns : tie.Need-returns
 returns c =
     let lent = c .before .before .before .before .before .before .before .before .before .before .before .before .before .before .before .pre in
@@ -48,7 +37,6 @@ returns c =
     let told = c .enum-told .given .1 in
     rows-too-large lent _ _ _ _ tally _ asked told
 
--- src/lib.rt:35:1
 returns-2 : tie.Need-returns-2
 returns-2 c =
     let lent = c .before .before .before .before .before .before .before .before .before .before .before .before .before .before .before .pre in
@@ -57,15 +45,12 @@ returns-2 c =
     let told = c .enum-told2 .given .1 in
     rows-too-long lent _ _ _ _ tally _ asked told
 
--- src/lib.rt:35:1
 same-length : tie.Need-same-length
 same-length c = search needs
 
--- src/lib.rt:35:1
 same-length-2 : tie.Need-same-length-2
 same-length-2 c = search needs
 
--- src/lib.rt:35:1
 returns-3 : tie.Need-returns-3
 returns-3 c =
     let lent = c .before .before .before .before .before .before .before .before .before .before .before .before .before .before .before .before .before .before .before .before .before .before .pre in

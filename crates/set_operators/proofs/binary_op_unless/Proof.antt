@@ -1,26 +1,20 @@
+-- `binary_op_unless` meets its contract. Assumes nothing.
 use Rattle.set_operators.proofs.Lent.{never-falls}
 use borrow.Author.Needs.{needs}
 use Rattle.set_operators.proofs.binary_op_unless.Statement.{statement}
 use Rattle.set_operators.proofs.binary_op_unless.Tie as tie
-use Rattle.set_operators.proofs.binary_op_unless.Reads as reads
-use Rattle.set_operators.proofs.binary_op_unless.Lts as lts
-use Rattle.set_operators.proofs.run_set.Reads as run-set-reads
 
--- src/lib.rt:228:5
 run-set-requires : tie.Need-run-set-requires
 run-set-requires c κs =
     let pre = c .before .before .before .before .before .before .before .before .before .before .before .before .pre in
     never-falls (pre .0) (pre .1 .0) (pre .1 .1)
 
--- src/lib.rt:210:1
 same-length : tie.Need-same-length
 same-length c = search needs
 
--- src/lib.rt:210:1
 same-length-2 : tie.Need-same-length-2
 same-length-2 c = search needs
 
--- src/lib.rt:210:1
 returns : tie.Need-returns
 returns c = c .before .before .before .before .run-set .ensures
 

@@ -1,35 +1,27 @@
-use Rattle.set_operators.proofs.Answering.{right-side, rows-below}
+-- `put_answer` meets its contract. Assumes nothing.
+use Rattle.set_operators.proofs.Answering.{right-lent, rows-below}
 use borrow.Author.Needs.{needs}
 use Rattle.set_operators.proofs.put_answer.Statement.{statement}
 use Rattle.set_operators.proofs.put_answer.Tie as tie
-use Rattle.set_operators.proofs.put_answer.Reads as reads
-use Rattle.set_operators.proofs.put_answer.Lts as lts
-use Rattle.set_rules.proofs.put_records.Reads as put-records-reads
-use Rattle.set_rules.proofs.put_rows.Reads as put-rows-reads
 
--- src/lib.rt:30:5
 put-rows-requires : tie.Need-put-rows-requires
 put-rows-requires c κs =
     let pre = c .before .before .before .before .before .before .before .before .before .before .before .before .pre in
     let lent = pre .0 in
-    (lent .sides .leftSide .readings, (right-side lent, (lent .below, (lent .few, (lent .sides .points, pre .1 .readingPart)))))
+    (lent .sides .leftSide .readings, (right-lent (lent .sides), (lent .below, (lent .few, (lent .sides .points, pre .1 .readingPart)))))
 
--- src/lib.rt:31:5
 put-records-requires : tie.Need-put-records-requires
 put-records-requires c κs =
     let pre = c .before .before .before .before .before .before .before .before .before .before .before .before .before .before .before .before .pre in
     let lent = pre .0 in
     (lent .sides .leftSide .records, (lent .sides .rightSide .records, (rows-below lent, pre .1 .labelPart)))
 
--- src/lib.rt:10:1
 same-length : tie.Need-same-length
 same-length c = search needs
 
--- src/lib.rt:10:1
 same-length-2 : tie.Need-same-length-2
 same-length-2 c = search needs
 
--- src/lib.rt:10:1
 returns : tie.Need-returns
 returns c =
     let put = c .before .before .put-records .ensures in
