@@ -1,4 +1,3 @@
-pub mod Operators
 pub mod Listing
 pub mod Records
 pub mod Rows

@@ -1,5 +1,5 @@
 -- The rows of an answer listed: the left places, then the right ones. Assumes nothing.
-use Prim.Native.Nat.{ℕ, zero, suc, _+_, _-_, _*_, _≤_, _<_}
+use Prim.Native.Nat.{ℕ, suc, _+_, _*_, _≤_, _<_}
 use mathlib.Core.Path.{_≡_, refl, sym, ap, _∙_}
 use mathlib.Core.Bool.{Bool, true, false, cond}
 use mathlib.Core.List.{List, [], _∷_, _++_, append-nil}
@@ -7,7 +7,7 @@ use native.Mathlib.Numerals.{add-one}
 use native.Mathlib.Nat.{add-zero, add-suc, suc-add, suc-mul, mul-le-mul-right}
 use native.Mathlib.Omega.{arith}
 use lib.Dec.{eqb}
-use lib.ListN.{length, getD, take, drop, set, length-append, length-take, length-drop, drop-of-length-le}
+use lib.ListN.{length, getD, drop, set, length-append, length-take, length-drop, drop-of-length-le}
 use lib.Seq.{drop-cons, sets}
 use Rattle.operator.specs.Kinds.{SetRule}
 use Rattle.model.specs.Limits.{maxSeries}
@@ -19,7 +19,7 @@ use Rattle.timeseries.specs.Places as Places
 use Rattle.merging.specs.Laws.{first-places}
 use Rattle.set_kernels.specs.Places.{NotedIf, NotedAll, RightSide}
 use Rattle.set_kernels.proofs.Noting.{Noting, noting-starts, noting-turn, noting-length, noting-ends}
-use Rattle.set_rules.specs.Sides.{RowSide, rowSides, RowsBelow}
+use Rattle.set_rules.specs.Sides.{RowSide, rowSides}
 
 -- a row of a side lies within its readings, and has its width
 pub row-in : (p : ℕ) (keys rows : List ℕ) (i : ℕ) → RowSide p keys rows → i < length keys → i * p + p ≤ length rows

@@ -1,12 +1,12 @@
 -- Records as labels are encoded: their size, and the two bytes of a record without name and tags. Assumes nothing.
-use Prim.Native.Nat.{ℕ, zero, suc, _+_, _-_, _*_, _≤_, _<_}
+use Prim.Native.Nat.{ℕ, suc, _+_, _-_, _≤_, _<_}
 use mathlib.Core.Path.{_≡_, refl, sym, ap, _∙_}
-use mathlib.Core.Bool.{Bool, true, false, cond}
-use mathlib.Core.List.{List, [], _∷_, _++_, append-nil}
+use mathlib.Core.Bool.{false}
+use mathlib.Core.List.{List, [], _∷_, _++_}
 use native.Mathlib.Omega.{arith}
-use lib.Dec.{eqb, ltb, leb}
-use lib.ListN.{length, getD, take, drop, length-append, length-take, length-drop}
-use lib.Seq.{getD-append-seam, take-at}
+use lib.Dec.{eqb}
+use lib.ListN.{length, getD, length-append, length-take, length-drop}
+use lib.Seq.{getD-append-seam}
 use borrow.Author.Tests.{ne-eqb, lt-ltb, le-ltb, le-leb}
 use Rattle.model.specs.Limits.{maxLabelBytes}
 use Rattle.model.specs.Labels.{Tag, Labels}
@@ -17,11 +17,9 @@ use Rattle.labels.specs.declared.Place.{Place}
 use Rattle.labels.specs.declared.Place.the-variants.{At, Short}
 use Rattle.labels.specs.Fields.{fieldAt}
 use Rattle.label_edits.specs.declared.Size.{Size}
-use Rattle.label_edits.specs.Edited.{Sized}
 use Rattle.label_edits.specs.Written.{Put}
-use Rattle.answers.specs.Tallies.{mostOfRecord}
-use Rattle.metric_name.specs.Lenient.{labelsOf, labels-encoded}
-use Rattle.timeseries.specs.Sides.{Positions, between, recordAt, labelsFrom, labelsIn}
+use Rattle.metric_name.specs.Lenient.{labelsOf}
+use Rattle.timeseries.specs.Sides.{between, recordAt, labelsFrom, labelsIn}
 use Rattle.timeseries.specs.SideLaws.{labels-at}
 use Rattle.set_rules.specs.Rules.{bareSide}
 use Rattle.set_rules.specs.Sides.{RecordSide, rowLabels, SizedRecord}

@@ -1,8 +1,8 @@
 -- The readings of rows: each row's width, one row, and all of them. Assumes nothing.
-use Prim.Native.Nat.{ℕ, zero, suc, _+_, _-_, _*_, _≤_, _<_}
+use Prim.Native.Nat.{ℕ, suc, _+_, _-_, _*_, _≤_, _<_}
 use mathlib.Core.Path.{_≡_, refl, sym, ap, _∙_}
 use mathlib.Core.Bool.{Bool, true, false, cond}
-use mathlib.Core.List.{List, [], _∷_, _++_}
+use mathlib.Core.List.{List, [], _∷_}
 use native.Mathlib.Nat.{suc-mul, mul-le-mul, mul-le-mul-right}
 use native.Mathlib.Omega.{arith}
 use mir.Syntax.{w64}
@@ -15,10 +15,9 @@ use Rattle.model.specs.Limits.{maxSeries, maxPoints}
 use Rattle.model.specs.Lists.{isEmpty, gather}
 use Rattle.semantics.specs.Binop.{pointwise}
 use Rattle.plan.specs.Merging.{rowAt}
-use Rattle.plan.specs.Sets.{SetSides, metPlaces, setPoint, firstAt, setRow, leftRow}
-use Rattle.answers.specs.Outcomes.{startingWith}
+use Rattle.plan.specs.Sets.{metPlaces, setPoint, firstAt, setRow, leftRow}
 use Rattle.answers.proofs.Writing.{Writing, writing-ends, writing-count}
-use Rattle.answers.proofs.Rows.{Wide, RowsWriting, rows-start, row-within}
+use Rattle.answers.proofs.Rows.{RowsWriting, rows-start, row-within}
 use Rattle.set_kernels.specs.Places.{RightSide}
 use Rattle.set_rules.specs.Sides.{RowSide, rowSides, rowReadings, RowsBelow, RecordsPut}
 use Rattle.set_rules.proofs.Listing.{row-in, row-wide}

@@ -1,13 +1,12 @@
 -- The sides of a set rule as they are lent, and the labels and the row of each answer row. Assumes nothing.
 use Prim.Native.Nat.{ℕ, _+_, _-_, _*_, _≤_, _<_}
 use mathlib.Core.Path.{_≡_}
-use mathlib.Core.Bool.{Bool, false, _&&_, cond}
+use mathlib.Core.Bool.{Bool, cond}
 use mathlib.Core.List.{List, []}
 use lib.Dec.{ltb}
 use lib.ListN.{length, getD}
-use Rattle.operator.specs.declared.Operator.{Operator}
-use Rattle.operator.specs.Kinds.{SetRule, kindOf}
-use Rattle.model.specs.Limits.{maxSeries, maxPoints, maxLabelBytes}
+use Rattle.operator.specs.Kinds.{SetRule}
+use Rattle.model.specs.Limits.{maxSeries, maxLabelBytes}
 use Rattle.model.specs.Labels.{Labels}
 use Rattle.model.specs.Record.{encode}
 use Rattle.metric_name.specs.Lenient.{labelsOf}
@@ -19,7 +18,6 @@ use Rattle.plan.specs.Merging.{rowAt}
 use Rattle.plan.specs.Pairs.{noLabels}
 use Rattle.plan.specs.Sets.{SetSides, metPlaces, leftRow}
 use Rattle.timeseries.specs.Sides.{Positions, recordAt, labelsIn}
-use Rattle.set_rules.specs.Rules.{ruleOf, fallsBack, bareSide, addsRight}
 
 -- a side's records: at its positions, each as its labels are encoded
 pub record RecordSide (array at : List ℕ) : Type 0 where
@@ -73,11 +71,6 @@ withLabels leftLabels rightLabels s = record {
 abbrev pub lentSides : SetRule → Bool → Bool → ℕ → List ℕ → List ℕ → List ℕ → List ℕ → List ℕ → List ℕ → List ℕ → List ℕ → SetSides
 lentSides rule falls adds p leftArray leftAt leftKeys left array at keys rows =
     withLabels (labelsIn leftArray leftAt) (labelsIn array at) (rowSides rule falls adds p leftKeys left keys rows)
-
--- the sides of an operator's call
-abbrev pub sidesOf : Operator → ℕ → List ℕ → List ℕ → List ℕ → List ℕ → List ℕ → List ℕ → List ℕ → List ℕ → SetSides
-sidesOf op p leftArray leftAt leftKeys left array at keys rows =
-    lentSides (ruleOf (kindOf op)) (fallsBack (kindOf op) && bareSide (labelsIn array at)) (addsRight (kindOf op) (length leftKeys)) p leftArray leftAt leftKeys left array at keys rows
 
 -- the labels of the row x, of n left labels and the right ones behind them
 abbrev pub rowLabels : ℕ → List Labels → List Labels → ℕ → Labels

@@ -2,13 +2,11 @@
 use answers::Tally;
 use label_edits::Size;
 use labels::Place;
-use operator::Operator;
 use set_kernels::SetRule;
 ghost use mathlib.Core.Path.{_≡_};
 ghost use mathlib.Core.Bool.{false};
 ghost use Prim.Native.Nat.{_+_, _-_, _*_, _≤_, _<_};
 ghost use lib.ListN.{length};
-ghost use Rattle.operator.specs.Kinds.{kindOf};
 ghost use Rattle.model.specs.Limits.{maxSeries, maxPoints, maxLabelBytes};
 ghost use Rattle.model.specs.Lists.{gather};
 ghost use Rattle.model.specs.Record.{encode};
@@ -20,42 +18,8 @@ ghost use Rattle.answers.specs.Outcomes.{startingWith};
 ghost use Rattle.answers.specs.Tallies.{TallyOf, recordsOf};
 ghost use Rattle.set_kernels.specs.Points.{meant};
 ghost use Rattle.set_kernels.specs.Places.{NotedAll, RightSide};
-ghost use Rattle.set_rules.specs.Rules.{ruleOf, fallsBack, bareSide, addsRight};
+ghost use Rattle.set_rules.specs.Rules.{bareSide};
 ghost use Rattle.set_rules.specs.Sides.{SizedRecord, RecordSide, RowSide, rowSides, rowLabels, rowReadings, RowsBelow, RecordsPut};
-
-// The rule of an operator.
-pub fn set_rule(op: Operator) -> SetRule
-    ensures { λ r. ⌜ meant r ≡ ruleOf (kindOf op) ⌝ }
-{
-    match op {
-        Operator::And => SetRule::WhereFound,
-        Operator::If => SetRule::WhereFound,
-        Operator::Unless => SetRule::WhereNone,
-        Operator::IfNot => SetRule::WhereNone,
-        _ => SetRule::Filled,
-    }
-}
-
-// Whether an operator falls back to a right side of one series without name and tags.
-pub fn falls_back(op: Operator) -> bool
-    ensures { λ r. ⌜ r ≡ fallsBack (kindOf op) ⌝ }
-{
-    match op {
-        Operator::Default | Operator::If | Operator::IfNot => true,
-        _ => false,
-    }
-}
-
-// Whether right series of keys that no left one has are in the answer, by the number of left series.
-pub fn adds_right(op: Operator, left: usize) -> bool
-    ensures { λ r. ⌜ r ≡ addsRight (kindOf op) left ⌝ }
-{
-    match op {
-        Operator::Or => true,
-        Operator::Default => left == 0,
-        _ => false,
-    }
-}
 
 // Whether a side is one series without name and tags: its record is two bytes.
 pub fn is_scalar(array: &[u8], at: &[usize]) -> bool
