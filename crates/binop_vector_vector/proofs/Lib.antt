@@ -1,3 +1,5 @@
 pub mod Stages
 pub mod Numbering
 pub mod Verdicts
+pub mod Sides
+pub mod Operators

@@ -6,6 +6,8 @@ use mathlib.Core.List.{List}
 use lib.Dec.{eqb}
 use lib.ListN.{length}
 use borrow.Author.Tests.{eq-eqb, ne-eqb}
+use Rattle.operator.specs.declared.Operator.{Operator}
+use Rattle.operator.specs.Kinds.{kindOf}
 use Rattle.operator.specs.Operators.{isCarried}
 use Rattle.model.specs.Query as Model
 use Rattle.model.specs.Laws.Query.{taken-query}
@@ -16,7 +18,10 @@ use Rattle.query.specs.declared.Query.{Query}
 use Rattle.query.specs.declared.Request.{Request}
 use Rattle.query.specs.declared.Request.the-variants as R
 use Rattle.query.specs.Queries.{queryOf, ListsWithin, TakenAs, Answer, taken, numbered}
+use Rattle.answers.specs.declared.Outcome as Answers
+use Rattle.answers.specs.Outcomes.{Ran}
 use Rattle.binop_vector_vector.specs.Lent.{LentSide, lentVector}
+use Rattle.binop_vector_vector.specs.Keyed.{dropsMissing, Keyed}
 
 -- a query that is taken from the bytes s: its lists stand in them, and its operator is carried
 pub record Asked (s : List ℕ) (q : Query) : Type 0 where
@@ -56,3 +61,8 @@ module _ (s : List ℕ) (labels readings labels′ readings′ : List ℕ) (labe
 
   pub call-malformed : Model.takeQuery s ≡ Model.malformed → call s labels readings labels′ readings′ labelRoom room ≡ refused 2 0 0
   call-malformed h = call-by Model.malformed h
+
+-- an operator's run over two sides with their key numbers: under each query of that operator it comes to what is asked for
+pub record OperatorRan (op : Operator) (p : ℕ) (array at keys rows array′ at′ keys′ rows′ labels₀ out₀ labels out : List ℕ) (r : Answers.Outcome) : Type 0 where
+  pub each : (q : Model.Query) → q .operator ≡ op → Keyed q (dropsMissing (kindOf op)) p array at keys rows array′ at′ keys′ rows′
+      → Ran (ranOver q p array at rows array′ at′ rows′ (length labels₀) (length out₀)) labels₀ out₀ labels out r

@@ -6,11 +6,11 @@ use query::Query;
 use query::Request;
 use timeseries::Taken;
 ghost use mathlib.Core.Path.{_≡_};
-ghost use mathlib.Core.Bool.{true};
+ghost use mathlib.Core.Bool.{true, false};
 ghost use Prim.Native.Nat.{_+_, _-_, _*_, _≤_, _<_};
 ghost use lib.ListN.{length};
 ghost use Rattle.operator.specs.Kinds.{kindOf};
-ghost use Rattle.operator.specs.Operators.{isCarried};
+ghost use Rattle.operator.specs.Operators.{isLogicalOp, isCarried};
 ghost use Rattle.labels.specs.Names.{namesOf};
 ghost use Rattle.labels.specs.Matchings.{matchingOf};
 ghost use Rattle.query.specs.Queries.{queryOf, ListsWithin};
@@ -18,8 +18,8 @@ ghost use Rattle.semantics.specs.Call.{call, running};
 ghost use Rattle.answers.specs.Outcomes.{Ran};
 ghost use Rattle.timeseries.specs.Sides.{Positions};
 ghost use Rattle.binop_vector_vector.specs.Lent.{LentSide, lentVector};
-ghost use Rattle.binop_vector_vector.specs.Keyed.{dropsMissing, keptKeys, SidesNumbered, Keyed, NumbersKept};
-ghost use Rattle.binop_vector_vector.specs.Stages.{Asked, leftStage, rightStage, ranOver};
+ghost use Rattle.binop_vector_vector.specs.Keyed.{dropsMissing, keptKeys, SidesNumbered, KeyedSide, Keyed, NumbersKept};
+ghost use Rattle.binop_vector_vector.specs.Stages.{Asked, leftStage, rightStage, ranOver, OperatorRan};
 
 // Numbers the keys of both sides, with room for their hashes.
 fn number_hashed(
@@ -158,6 +158,145 @@ fn number_kept(
     drop_for(op, p, left, left_keys, right, right_keys);
 }
 
+// A set operator: by its own rule.
+fn run_logical(
+    op: Operator,
+    p: usize,
+    left_labels: &[u8],
+    left_at: &[usize],
+    left_keys: &[usize],
+    left: &[u64],
+    right_labels: &[u8],
+    right_at: &[usize],
+    right_keys: &[usize],
+    right: &[u64],
+    labels: &mut [u8],
+    out: &mut [u64],
+) -> Outcome
+    requires { ⌜ isLogicalOp op ≡ true ⌝ }
+    requires { ⌜ KeyedSide p (now «left_labels») (now «left_at») (now «left_keys») (now left) ⌝ }
+    requires { ⌜ KeyedSide p (now «right_labels») (now «right_at») (now «right_keys») (now right) ⌝ }
+    ensures { λ r. ⌜ OperatorRan op p (now («left_labels» .entry)) (now («left_at» .entry)) (now («left_keys» .entry)) (now (left .entry)) (now («right_labels» .entry)) (now («right_at» .entry)) (now («right_keys» .entry)) (now (right .entry)) (now (labels .entry)) (now (out .entry)) (now (labels .exit)) (now (out .exit)) r ⌝ }
+{
+    match op {
+        Operator::And => set_operators::binary_op_and(
+            p,
+            left_labels,
+            left_at,
+            left_keys,
+            left,
+            right_labels,
+            right_at,
+            right_keys,
+            right,
+            labels,
+            out,
+        ),
+        Operator::Or => set_operators::binary_op_or(
+            p,
+            left_labels,
+            left_at,
+            left_keys,
+            left,
+            right_labels,
+            right_at,
+            right_keys,
+            right,
+            labels,
+            out,
+        ),
+        Operator::Unless => set_operators::binary_op_unless(
+            p,
+            left_labels,
+            left_at,
+            left_keys,
+            left,
+            right_labels,
+            right_at,
+            right_keys,
+            right,
+            labels,
+            out,
+        ),
+        Operator::If => set_operators::binary_op_if(
+            p,
+            left_labels,
+            left_at,
+            left_keys,
+            left,
+            right_labels,
+            right_at,
+            right_keys,
+            right,
+            labels,
+            out,
+        ),
+        Operator::IfNot => set_operators::binary_op_if_not(
+            p,
+            left_labels,
+            left_at,
+            left_keys,
+            left,
+            right_labels,
+            right_at,
+            right_keys,
+            right,
+            labels,
+            out,
+        ),
+        _ => set_operators::binary_op_default(
+            p,
+            left_labels,
+            left_at,
+            left_keys,
+            left,
+            right_labels,
+            right_at,
+            right_keys,
+            right,
+            labels,
+            out,
+        ),
+    }
+}
+
+// Arithmetic and comparisons: by the join.
+fn run_matched(
+    query: &[u8],
+    q: Query,
+    p: usize,
+    left_labels: &[u8],
+    left_at: &[usize],
+    left_keys: &[usize],
+    left: &[u64],
+    right_labels: &[u8],
+    right_at: &[usize],
+    right_keys: &[usize],
+    right: &[u64],
+    labels: &mut [u8],
+    out: &mut [u64],
+) -> Outcome
+    requires { ⌜ Asked (now query) q ⌝ }
+    requires { ⌜ isLogicalOp (q .operator) ≡ false ⌝ }
+    requires { ⌜ Keyed (queryOf (now query) q) (dropsMissing (kindOf (q .operator))) p (now «left_labels») (now «left_at») (now «left_keys») (now left) (now «right_labels») (now «right_at») (now «right_keys») (now right) ⌝ }
+    ensures { λ r. ⌜ Ran (ranOver (queryOf (now (query .entry)) q) p (now («left_labels» .entry)) (now («left_at» .entry)) (now (left .entry)) (now («right_labels» .entry)) (now («right_at» .entry)) (now (right .entry)) (length (now (labels .entry))) (length (now (out .entry)))) (now (labels .entry)) (now (out .entry)) (now (labels .exit)) (now (out .exit)) r ⌝ }
+{
+    let to = q.join_at;
+    one_to_one::run_pairs(
+        q,
+        &query[4..to],
+        p,
+        left_labels,
+        left_at,
+        left_keys,
+        left,
+        right_keys,
+        right,
+        labels,
+        out,
+    )
+}
+
 // The keys are numbered.
 fn run_keyed(
     query: &[u8],
@@ -178,7 +317,38 @@ fn run_keyed(
     requires { ⌜ Keyed (queryOf (now query) q) (dropsMissing (kindOf (q .operator))) p (now «left_labels») (now «left_at») (now «left_keys») (now left) (now «right_labels») (now «right_at») (now «right_keys») (now right) ⌝ }
     ensures { λ r. ⌜ Ran (ranOver (queryOf (now (query .entry)) q) p (now («left_labels» .entry)) (now («left_at» .entry)) (now (left .entry)) (now («right_labels» .entry)) (now («right_at» .entry)) (now (right .entry)) (length (now (labels .entry))) (length (now (out .entry)))) (now (labels .entry)) (now (out .entry)) (now (labels .exit)) (now (out .exit)) r ⌝ }
 {
-    Outcome::Unequal
+    let operator = q.operator;
+    if operator.is_logical_op() {
+        return run_logical(
+            operator,
+            p,
+            left_labels,
+            left_at,
+            left_keys,
+            left,
+            right_labels,
+            right_at,
+            right_keys,
+            right,
+            labels,
+            out,
+        );
+    }
+    run_matched(
+        query,
+        q,
+        p,
+        left_labels,
+        left_at,
+        left_keys,
+        left,
+        right_labels,
+        right_at,
+        right_keys,
+        right,
+        labels,
+        out,
+    )
 }
 
 // Both sides are taken and have the same points; with room for their keys.

@@ -3,10 +3,56 @@ use Rattle.binop_vector_vector.proofs.run_keyed.Statement.{statement}
 use Rattle.binop_vector_vector.proofs.run_keyed.Tie as tie
 use Rattle.binop_vector_vector.proofs.run_keyed.Reads as reads
 use Rattle.binop_vector_vector.proofs.run_keyed.Lts as lts
+use Rattle.binop_vector_vector.proofs.run_logical.Reads as run-logical-reads
+use Rattle.binop_vector_vector.proofs.run_matched.Reads as run-matched-reads
+use Rattle.operator.proofs.Operator.is_logical_op.Reads as is-logical-op-reads
 
--- src/lib.rt:128:1
+-- src/lib.rt:321:8
+is-logical-op-requires : tie.Need-is-logical-op-requires
+is-logical-op-requires c κs = search needs
+
+-- src/lib.rt:322:9
+run-logical-requires : tie.Need-run-logical-requires
+run-logical-requires c κs = ?
+
+-- src/lib.rt:322:9
+same-length : tie.Need-same-length
+same-length c = search needs
+
+-- src/lib.rt:322:9
+same-length-2 : tie.Need-same-length-2
+same-length-2 c = search needs
+
+-- src/lib.rt:322:9
 returns : tie.Need-returns
 returns c = ?
 
+-- src/lib.rt:337:5
+run-matched-requires : tie.Need-run-matched-requires
+run-matched-requires c κs = ?
+
+-- src/lib.rt:301:1
+same-length-3 : tie.Need-same-length-3
+same-length-3 c = search needs
+
+-- src/lib.rt:301:1
+same-length-4 : tie.Need-same-length-4
+same-length-4 c = search needs
+
+-- src/lib.rt:301:1
+returns-2 : tie.Need-returns-2
+returns-2 c = search needs
+
 pub run-keyed-spec : {M : Type 1} → statement M
-run-keyed-spec = tie.close (tie.spec returns)
+run-keyed-spec =
+    tie.close
+    (tie.spec
+    is-logical-op-requires
+    run-logical-requires
+    same-length
+    same-length-2
+    returns
+    run-matched-requires
+    same-length-3
+    same-length-4
+    returns-2)
