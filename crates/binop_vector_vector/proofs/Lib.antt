@@ -3,3 +3,4 @@ pub mod Numbering
 pub mod Verdicts
 pub mod Sides
 pub mod Operators
+pub mod Matched

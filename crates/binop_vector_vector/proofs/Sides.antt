@@ -1,6 +1,7 @@
 -- A side with its key numbers is all that each family asks of a side. Assumes nothing.
 use Prim.Native.Nat.{ℕ, _+_, _*_, _≤_, _<_}
 use mathlib.Core.Path.{_≡_, refl, sym, ap, _∙_}
+use mathlib.Core.Bool.{Bool}
 use mathlib.Core.List.{List}
 use native.Mathlib.Omega.{arith}
 use lib.ListN.{length}
@@ -13,7 +14,8 @@ use Rattle.pairs.specs.Edits.{InOrder}
 use Rattle.pairs.specs.Pairing.{Level, PairSides, LeftLabels}
 use Rattle.join_leads.specs.Lent.{Lent}
 use Rattle.join_rows.specs.Sides.{OneLent, JoinLent}
-use Rattle.binop_vector_vector.specs.Keyed.{KeyedSide}
+use Rattle.model.specs.Query.{Query}
+use Rattle.binop_vector_vector.specs.Keyed.{KeyedSide, Keyed}
 
 module _ (p : ℕ) (array at keys rows : List ℕ) (k : KeyedSide p array at keys rows) where
   few : length keys ≤ 512
@@ -35,7 +37,7 @@ module _ (p : ℕ) (array at keys rows : List ℕ) (k : KeyedSide p array at key
   level : Level p rows keys
   level = record { narrow = keyed-narrow; few = few; whole = whole }
 
-  pub left-labels : LeftLabels array at
+  left-labels : LeftLabels array at
   left-labels = record {
     positions = k .lent .positions;
     small = k .lent .short;
@@ -52,12 +54,36 @@ module _ (p : ℕ) (array at keys rows : List ℕ) (k : KeyedSide p array at key
   }
 
 module _ (p : ℕ) (array at keys rows array′ at′ keys′ rows′ : List ℕ) (k : KeyedSide p array at keys rows) (k′ : KeyedSide p array′ at′ keys′ rows′) where
-  pub pair-sides : PairSides p rows keys rows′ keys′
+  pair-sides : PairSides p rows keys rows′ keys′
   pair-sides = record { lefts = level p array at keys rows k; rights = level p array′ at′ keys′ rows′ k′ }
 
-  pub join-sides : JoinLent p array at keys rows array′ at′ keys′ rows′
+  join-sides : JoinLent p array at keys rows array′ at′ keys′ rows′
   join-sides = record {
     many = join-side p array at keys rows k;
     held = whole p array at keys rows k;
     one = record { lent = join-side p array′ at′ keys′ rows′ k′; held = whole p array′ at′ keys′ rows′ k′; narrow = k .lent .narrow };
   }
+
+-- of both sides under a query
+
+module _ (q : Query) (drops : Bool) (p : ℕ) (array at keys rows array′ at′ keys′ rows′ : List ℕ) (k : Keyed q drops p array at keys rows array′ at′ keys′ rows′) where
+  pub lefts-keyed : KeyedSide p array at keys rows
+  lefts-keyed = k .lefts
+
+  pub rights-keyed : KeyedSide p array′ at′ keys′ rows′
+  rights-keyed = k .rights
+
+  pub keyed-pairs : PairSides p rows keys rows′ keys′
+  keyed-pairs = pair-sides p array at keys rows array′ at′ keys′ rows′ (k .lefts) (k .rights)
+
+  pub keyed-labels : LeftLabels array at
+  keyed-labels = left-labels p array at keys rows (k .lefts)
+
+  pub keyed-count : length at ≡ length keys + 1
+  keyed-count = k .lefts .count
+
+  pub joined-left : JoinLent p array at keys rows array′ at′ keys′ rows′
+  joined-left = join-sides p array at keys rows array′ at′ keys′ rows′ (k .lefts) (k .rights)
+
+  pub joined-right : JoinLent p array′ at′ keys′ rows′ array at keys rows
+  joined-right = join-sides p array′ at′ keys′ rows′ array at keys rows (k .rights) (k .lefts)

@@ -13,7 +13,8 @@ ghost use Rattle.operator.specs.Kinds.{kindOf};
 ghost use Rattle.operator.specs.Operators.{isLogicalOp, isCarried};
 ghost use Rattle.labels.specs.Names.{namesOf};
 ghost use Rattle.labels.specs.Matchings.{matchingOf};
-ghost use Rattle.query.specs.Queries.{queryOf, ListsWithin};
+ghost use Rattle.model.specs.Query.{oneToOne};
+ghost use Rattle.query.specs.Queries.{queryOf, joinOf};
 ghost use Rattle.semantics.specs.Call.{call, running};
 ghost use Rattle.answers.specs.Outcomes.{Ran};
 ghost use Rattle.timeseries.specs.Sides.{Positions};
@@ -260,8 +261,8 @@ fn run_logical(
     }
 }
 
-// Arithmetic and comparisons: by the join.
-fn run_matched(
+// Arithmetic and comparisons, one-to-one.
+fn run_one_to_one(
     query: &[u8],
     q: Query,
     p: usize,
@@ -278,6 +279,7 @@ fn run_matched(
 ) -> Outcome
     requires { ⌜ Asked (now query) q ⌝ }
     requires { ⌜ isLogicalOp (q .operator) ≡ false ⌝ }
+    requires { ⌜ joinOf (q .join) ≡ oneToOne ⌝ }
     requires { ⌜ Keyed (queryOf (now query) q) (dropsMissing (kindOf (q .operator))) p (now «left_labels») (now «left_at») (now «left_keys») (now left) (now «right_labels») (now «right_at») (now «right_keys») (now right) ⌝ }
     ensures { λ r. ⌜ Ran (ranOver (queryOf (now (query .entry)) q) p (now («left_labels» .entry)) (now («left_at» .entry)) (now (left .entry)) (now («right_labels» .entry)) (now («right_at» .entry)) (now (right .entry)) (length (now (labels .entry))) (length (now (out .entry)))) (now (labels .entry)) (now (out .entry)) (now (labels .exit)) (now (out .exit)) r ⌝ }
 {
@@ -334,7 +336,7 @@ fn run_keyed(
             out,
         );
     }
-    run_matched(
+    run_one_to_one(
         query,
         q,
         p,
