@@ -1,0 +1,45 @@
+-- What a join comes to and leaves in the output parts: its answer, by codes and whole. Assumes nothing.
+use Prim.Native.Nat.{ℕ}
+use mathlib.Core.Path.{_≡_}
+use mathlib.Core.List.{List, map}
+use lib.ListN.{length}
+use Rattle.model.specs.Edits.{Names}
+use Rattle.model.specs.Query.{Query}
+use Rattle.model.specs.Vector.{Shape}
+use Rattle.semantics.specs.Call.{fit}
+use Rattle.semantics.specs.Binop.{shouldResetMetricGroup}
+use Rattle.plan.specs.Conclude.{conclude}
+use Rattle.plan.specs.Joins.{joinClash, joinRowsFrom, joinSeries}
+use Rattle.set_tags.specs.Records.{namingOf}
+use Rattle.timeseries.specs.Sides.{labelsIn}
+use Rattle.answers.specs.declared.Outcome.{Outcome}
+use Rattle.answers.specs.Outcomes.{Ran}
+use Rattle.join_leads.specs.Lent.{ListedBy}
+use Rattle.join_rows.specs.declared.Work.{Work}
+use Rattle.join_rows.specs.Sides.{sidesOf}
+use Rattle.join_rows.specs.Codes.{sideOf}
+
+-- the work is the one of a query with these lists
+pub record WorkOf (q : Query) (join skip : Names) (w : Work) : Type 0 where
+  pub lists : ListedBy q join skip
+  pub operator : q .operator ≡ w .operator
+  pub bool : q .bool ≡ w .bool
+  pub naming : w .naming ≡ namingOf join skip (shouldResetMetricGroup q)
+
+abbrev pub pointsOf : ℕ → Shape
+pointsOf p = record { points = p }
+
+-- the answer series of codes, as they fit
+pub record Answered (w : Work) (join skip : Names) (p : ℕ) (manyArray manyAt manyKeys manyRows array at keys rows list labels₀ out₀ labels out : List ℕ) (r : Outcome) : Type 0 where
+  pub each : (q : Query) → WorkOf q join skip w
+      → Ran (fit (length labels₀) (length out₀) (pointsOf p) (map (joinSeries q (sideOf (w .left)) (sidesOf p manyArray manyAt manyKeys manyRows array at keys rows)) list)) labels₀ out₀ labels out r
+
+-- a join: its first clash, or its answer series as they fit
+pub record Joined (w : Work) (join skip : Names) (p : ℕ) (manyArray manyAt manyKeys manyRows array at keys rows labels₀ out₀ labels out : List ℕ) (r : Outcome) : Type 0 where
+  pub each : (q : Query) → ListedBy q join skip → q .operator ≡ w .operator → q .bool ≡ w .bool → w .naming ≡ namingOf join skip (shouldResetMetricGroup q)
+      → Ran
+      (conclude (length labels₀) (length out₀) (record { points = p })
+      (joinClash q (sideOf (w .left)) (sidesOf p manyArray manyAt manyKeys manyRows array at keys rows) manyKeys (labelsIn manyArray manyAt))
+      (map (joinSeries q (sideOf (w .left)) (sidesOf p manyArray manyAt manyKeys manyRows array at keys rows))
+      (joinRowsFrom q (sidesOf p manyArray manyAt manyKeys manyRows array at keys rows) 0 manyKeys (labelsIn manyArray manyAt))))
+      labels₀ out₀ labels out r
