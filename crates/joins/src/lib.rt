@@ -1,19 +1,24 @@
 // Joins run: planned, measured, then written. Only the plan and the measures can refuse, so a refusal leaves the output parts as they were.
-use answers::{Outcome, Room, Tally};
+use answers::Outcome;
+use answers::Room;
+use answers::Tally;
 use join_plan::Plan;
 use join_rows::Work;
 use label_edits::Size;
 use set_tags::Naming;
 ghost use mathlib.Core.Path.{_≡_};
 ghost use mathlib.Core.Bool.{false};
-ghost use Prim.Native.Nat.{_+_, _*_, _≤_, _<_};
+ghost use Prim.Native.Nat.{_+_, _*_, _/_, _≤_, _<_};
 ghost use lib.ListN.{length};
 ghost use Rattle.labels.specs.Names.{namesOf};
 ghost use Rattle.model.specs.Record.{encode};
 ghost use Rattle.label_edits.specs.Written.{Put};
 ghost use Rattle.answers.specs.Tallies.{TallyOf, recordsOf, someWide};
-ghost use Rattle.join_rows.specs.Codes.{rowLabels};
+ghost use Rattle.join_leads.specs.Lent.{Lent};
+ghost use Rattle.join_rows.specs.Sides.{JoinLent};
+ghost use Rattle.join_rows.specs.Codes.{CodeIn, rowLabels};
 ghost use Rattle.joins.specs.Records.{CodeRecords, RecordsIn, SizedEdited, LabelRoom, LabelsPut};
+ghost use Rattle.joins.specs.Readings.{LeadsFor, CodeRow, JoinAsked, RowsPut};
 
 // The size of a code's edited record.
 fn code_size<'a>(
@@ -103,8 +108,191 @@ fn put_join_labels<'a>(
     let mut o: usize = 0;
     let mut r: usize = 0;
     while r < list.len() {
-        o = put_code_labels(many_array, many_at, array, at, list[r], join, skip, naming, out, o);
+        o = put_code_labels(
+            many_array,
+            many_at,
+            array,
+            at,
+            list[r],
+            join,
+            skip,
+            naming,
+            out,
+            o,
+        );
         r += 1;
     }
     o
+}
+
+// Makes the leads those of the many-side place m, unless they are: `marked` is the place that they stand for.
+fn leads_for<'a>(
+    m: usize,
+    marked: usize,
+    many_array: &'a [u8],
+    many_at: &[usize],
+    many_keys: &[usize],
+    array: &'a [u8],
+    at: &[usize],
+    keys: &[usize],
+    join: &[u8],
+    skip: &[u8],
+    leads: &mut [usize],
+)
+    requires many { ⌜ Lent (now «many_array») (now «many_at») (now «many_keys») ⌝ }
+    requires one { ⌜ Lent (now array) (now at) (now keys) ⌝ }
+    requires inside { ⌜ m < length (now «many_keys») ⌝ }
+    requires before { ⌜ LeadsFor (namesOf (now join)) (namesOf (now skip)) marked (now «many_array») (now «many_at») (now «many_keys») (now array) (now at) (now keys) (now leads) ⌝ }
+    ensures { λ _. ⌜ LeadsFor (namesOf (now (join .entry))) (namesOf (now (skip .entry))) m (now («many_array» .entry)) (now («many_at» .entry)) (now («many_keys» .entry)) (now (array .entry)) (now (at .entry)) (now (keys .entry)) (now (leads .exit)) ⌝ }
+{
+    if marked == m {
+        return;
+    }
+    let rec = timeseries::record(many_array, many_at, m);
+    join_leads::mark_leads(rec, many_keys[m], array, at, keys, join, skip, leads);
+}
+
+// Writes the readings of the code x, by its leaders. They are marked anew only for another many-side place than before.
+fn put_code_row<'a>(
+    w: Work,
+    x: usize,
+    marked: usize,
+    many_array: &'a [u8],
+    many_at: &[usize],
+    many_keys: &[usize],
+    many_rows: &[u64],
+    array: &'a [u8],
+    at: &[usize],
+    keys: &[usize],
+    rows: &[u64],
+    join: &[u8],
+    skip: &[u8],
+    leads: &mut [usize],
+    out: &mut [u64],
+)
+    requires lent { ⌜ JoinLent (length (now out)) (now «many_array») (now «many_at») (now «many_keys») (now «many_rows») (now array) (now at) (now keys) (now rows) ⌝ }
+    requires code { ⌜ CodeIn (now «many_keys») (now keys) x ⌝ }
+    requires before { ⌜ LeadsFor (namesOf (now join)) (namesOf (now skip)) marked (now «many_array») (now «many_at») (now «many_keys») (now array) (now at) (now keys) (now leads) ⌝ }
+    ensures { λ _. ⌜ LeadsFor (namesOf (now (join .entry))) (namesOf (now (skip .entry))) (x / 512) (now («many_array» .entry)) (now («many_at» .entry)) (now («many_keys» .entry)) (now (array .entry)) (now (at .entry)) (now (keys .entry)) (now (leads .exit)) ⌝ }
+    ensures { λ _. ⌜ CodeRow w (namesOf (now (join .entry))) (namesOf (now (skip .entry))) (length (now (out .entry))) (now («many_array» .entry)) (now («many_at» .entry)) (now («many_keys» .entry)) (now («many_rows» .entry)) (now (array .entry)) (now (at .entry)) (now (keys .entry)) (now (rows .entry)) x (now (out .exit)) ⌝ }
+{
+    let m = x / 512;
+    let p = out.len();
+    leads_for(
+        m,
+        marked,
+        many_array,
+        many_at,
+        many_keys,
+        array,
+        at,
+        keys,
+        join,
+        skip,
+        leads,
+    );
+    join_rows::lead_row(
+        w,
+        timeseries::row(many_rows, p, m),
+        rows,
+        leads,
+        x % 512,
+        out,
+    );
+}
+
+// No many-side place: those are below it.
+const NO_PLACE: usize = 512;
+
+// Writes the readings of codes, each into its own part. Codes of one many-side place stand together, so its leaders are marked once.
+fn put_led_rows<'a>(
+    w: Work,
+    p: usize,
+    many_array: &'a [u8],
+    many_at: &[usize],
+    many_keys: &[usize],
+    many_rows: &[u64],
+    array: &'a [u8],
+    at: &[usize],
+    keys: &[usize],
+    rows: &[u64],
+    join: &[u8],
+    skip: &[u8],
+    list: &[usize],
+    leads: &mut [usize],
+    out: &mut [u64],
+)
+    requires asked { ⌜ JoinAsked (namesOf (now join)) (namesOf (now skip)) p (now «many_array») (now «many_at») (now «many_keys») (now «many_rows») (now array) (now at) (now keys) (now rows) (now list) ⌝ }
+    requires long { ⌜ length (now leads) ≡ length (now keys) ⌝ }
+    requires room { ⌜ length (now list) * p ≤ length (now out) ⌝ }
+    ensures { λ _. ⌜ RowsPut w (namesOf (now (join .entry))) (namesOf (now (skip .entry))) p (now («many_array» .entry)) (now («many_at» .entry)) (now («many_keys» .entry)) (now («many_rows» .entry)) (now (array .entry)) (now (at .entry)) (now (keys .entry)) (now (rows .entry)) (now (list .entry)) (now (out .entry)) (now (out .exit)) ⌝ }
+{
+    let mut marked = NO_PLACE;
+    let mut r: usize = 0;
+    while r < list.len() {
+        let x = list[r];
+        let from = r * p;
+        let to = from + p;
+        put_code_row(
+            w,
+            x,
+            marked,
+            many_array,
+            many_at,
+            many_keys,
+            many_rows,
+            array,
+            at,
+            keys,
+            rows,
+            join,
+            skip,
+            leads,
+            &mut out[from..to],
+        );
+        marked = x / 512;
+        r += 1;
+    }
+}
+
+// With room for the leaders.
+fn put_join_rows<'a>(
+    w: Work,
+    p: usize,
+    many_array: &'a [u8],
+    many_at: &[usize],
+    many_keys: &[usize],
+    many_rows: &[u64],
+    array: &'a [u8],
+    at: &[usize],
+    keys: &[usize],
+    rows: &[u64],
+    join: &[u8],
+    skip: &[u8],
+    list: &[usize],
+    out: &mut [u64],
+)
+    requires asked { ⌜ JoinAsked (namesOf (now join)) (namesOf (now skip)) p (now «many_array») (now «many_at») (now «many_keys») (now «many_rows») (now array) (now at) (now keys) (now rows) (now list) ⌝ }
+    requires room { ⌜ length (now list) * p ≤ length (now out) ⌝ }
+    ensures { λ _. ⌜ RowsPut w (namesOf (now (join .entry))) (namesOf (now (skip .entry))) p (now («many_array» .entry)) (now («many_at» .entry)) (now («many_keys» .entry)) (now («many_rows» .entry)) (now (array .entry)) (now (at .entry)) (now (keys .entry)) (now (rows .entry)) (now (list .entry)) (now (out .entry)) (now (out .exit)) ⌝ }
+{
+    let mut leads = [0usize; 512];
+    let count = keys.len();
+    put_led_rows(
+        w,
+        p,
+        many_array,
+        many_at,
+        many_keys,
+        many_rows,
+        array,
+        at,
+        keys,
+        rows,
+        join,
+        skip,
+        list,
+        &mut leads[..count],
+        out,
+    );
 }
