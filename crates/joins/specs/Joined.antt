@@ -1,8 +1,10 @@
 -- What a join comes to and leaves in the output parts: its answer, by codes and whole. Assumes nothing.
-use Prim.Native.Nat.{ℕ}
+use Prim.Native.Nat.{ℕ, _*_, _≤_}
 use mathlib.Core.Path.{_≡_}
+use mathlib.Core.Bool.{false}
 use mathlib.Core.List.{List, map}
 use lib.ListN.{length}
+use Rattle.model.specs.Labels.{Labels}
 use Rattle.model.specs.Edits.{Names}
 use Rattle.model.specs.Query.{Query}
 use Rattle.model.specs.Vector.{Shape}
@@ -13,11 +15,14 @@ use Rattle.plan.specs.Joins.{joinClash, joinRowsFrom, joinSeries}
 use Rattle.set_tags.specs.Records.{namingOf}
 use Rattle.timeseries.specs.Sides.{labelsIn}
 use Rattle.answers.specs.declared.Outcome.{Outcome}
-use Rattle.answers.specs.Outcomes.{Ran}
+use Rattle.answers.specs.declared.Outcome.the-variants.{Answer}
+use Rattle.answers.specs.Outcomes.{startingWith, Ran}
+use Rattle.answers.specs.Tallies.{recordsOf, someWide}
 use Rattle.join_leads.specs.Lent.{ListedBy}
 use Rattle.join_rows.specs.declared.Work.{Work}
 use Rattle.join_rows.specs.Sides.{sidesOf}
-use Rattle.join_rows.specs.Codes.{sideOf}
+use Rattle.join_rows.specs.Codes.{sideOf, rowLabels}
+use Rattle.joins.specs.Readings.{RowsPut}
 
 -- the work is the one of a query with these lists
 pub record WorkOf (q : Query) (join skip : Names) (w : Work) : Type 0 where
@@ -28,6 +33,18 @@ pub record WorkOf (q : Query) (join skip : Names) (w : Work) : Type 0 where
 
 abbrev pub pointsOf : ℕ → Shape
 pointsOf p = record { points = p }
+
+-- the records of codes are within the limits and within n bytes, and their rows within m readings
+pub record AnswerRoom (f : ℕ → Labels) (list : List ℕ) (p n m : ℕ) : Type 0 where
+  pub narrow : someWide f list ≡ false
+  pub records : length (recordsOf f list) ≤ n
+  pub rows : length list * p ≤ m
+
+-- the records and the readings of codes at the start of the output parts, and their sizes
+pub record AnswerPut (w : Work) (join skip : Names) (p : ℕ) (manyArray manyAt manyKeys manyRows array at keys rows list labels₀ out₀ labels out : List ℕ) (r : Outcome) : Type 0 where
+  pub outcome : r ≡ Answer (length list) p (length (recordsOf (rowLabels join skip (w .naming) manyArray manyAt array at) list))
+  pub labelPart : labels ≡ startingWith (recordsOf (rowLabels join skip (w .naming) manyArray manyAt array at) list) labels₀
+  pub readingPart : RowsPut w join skip p manyArray manyAt manyKeys manyRows array at keys rows list out₀ out
 
 -- the answer series of codes, as they fit
 pub record Answered (w : Work) (join skip : Names) (p : ℕ) (manyArray manyAt manyKeys manyRows array at keys rows list labels₀ out₀ labels out : List ℕ) (r : Outcome) : Type 0 where

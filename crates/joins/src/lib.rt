@@ -19,6 +19,7 @@ ghost use Rattle.join_rows.specs.Sides.{JoinLent};
 ghost use Rattle.join_rows.specs.Codes.{CodeIn, rowLabels};
 ghost use Rattle.joins.specs.Records.{CodeRecords, RecordsIn, SizedEdited, LabelRoom, LabelsPut};
 ghost use Rattle.joins.specs.Readings.{LeadsFor, CodeRow, JoinAsked, RowsPut};
+ghost use Rattle.joins.specs.Joined.{AnswerRoom, AnswerPut, Answered, Joined};
 
 // The size of a code's edited record.
 fn code_size<'a>(
@@ -295,4 +296,108 @@ fn put_join_rows<'a>(
         &mut leads[..count],
         out,
     );
+}
+
+// Writes the answer: the records of codes, and their readings.
+fn put_answer<'a>(
+    w: Work,
+    p: usize,
+    many_array: &'a [u8],
+    many_at: &[usize],
+    many_keys: &[usize],
+    many_rows: &[u64],
+    array: &'a [u8],
+    at: &[usize],
+    keys: &[usize],
+    rows: &[u64],
+    join: &[u8],
+    skip: &[u8],
+    list: &[usize],
+    labels: &mut [u8],
+    out: &mut [u64],
+) -> Outcome
+    requires asked { ⌜ JoinAsked (namesOf (now join)) (namesOf (now skip)) p (now «many_array») (now «many_at») (now «many_keys») (now «many_rows») (now array) (now at) (now keys) (now rows) (now list) ⌝ }
+    requires room { ⌜ AnswerRoom (rowLabels (namesOf (now join)) (namesOf (now skip)) (w .naming) (now «many_array») (now «many_at») (now array) (now at)) (now list) p (length (now labels)) (length (now out)) ⌝ }
+    ensures { λ r. ⌜ AnswerPut w (namesOf (now (join .entry))) (namesOf (now (skip .entry))) p (now («many_array» .entry)) (now («many_at» .entry)) (now («many_keys» .entry)) (now («many_rows» .entry)) (now (array .entry)) (now (at .entry)) (now (keys .entry)) (now (rows .entry)) (now (list .entry)) (now (labels .entry)) (now (out .entry)) (now (labels .exit)) (now (out .exit)) r ⌝ }
+{
+    let naming = w.naming;
+    let series = list.len();
+    let bytes = put_join_labels(
+        many_array,
+        many_at,
+        array,
+        at,
+        list,
+        join,
+        skip,
+        naming,
+        labels,
+    );
+    put_join_rows(
+        w,
+        p,
+        many_array,
+        many_at,
+        many_keys,
+        many_rows,
+        array,
+        at,
+        keys,
+        rows,
+        join,
+        skip,
+        list,
+        out,
+    );
+    Outcome::Answer {
+        series,
+        points: p,
+        bytes,
+    }
+}
+
+// The answer series of codes, if they are within the limits and the output parts.
+fn answer_join<'a>(
+    w: Work,
+    p: usize,
+    many_array: &'a [u8],
+    many_at: &[usize],
+    many_keys: &[usize],
+    many_rows: &[u64],
+    array: &'a [u8],
+    at: &[usize],
+    keys: &[usize],
+    rows: &[u64],
+    join: &[u8],
+    skip: &[u8],
+    list: &[usize],
+    labels: &mut [u8],
+    out: &mut [u64],
+) -> Outcome
+    requires asked { ⌜ JoinAsked (namesOf (now join)) (namesOf (now skip)) p (now «many_array») (now «many_at») (now «many_keys») (now «many_rows») (now array) (now at) (now keys) (now rows) (now list) ⌝ }
+    ensures { λ r. ⌜ Answered w (namesOf (now (join .entry))) (namesOf (now (skip .entry))) p (now («many_array» .entry)) (now («many_at» .entry)) (now («many_keys» .entry)) (now («many_rows» .entry)) (now (array .entry)) (now (at .entry)) (now (keys .entry)) (now (rows .entry)) (now (list .entry)) (now (labels .entry)) (now (out .entry)) (now (labels .exit)) (now (out .exit)) r ⌝ }
+{
+    let naming = w.naming;
+    let t = tally_join(many_array, many_at, array, at, list, join, skip, naming);
+    match answers::room_for(list.len(), p, t, labels.len(), out.len()) {
+        Room::TooLarge => Outcome::TooLarge,
+        Room::TooLong => Outcome::TooLong,
+        Room::Fits => put_answer(
+            w,
+            p,
+            many_array,
+            many_at,
+            many_keys,
+            many_rows,
+            array,
+            at,
+            keys,
+            rows,
+            join,
+            skip,
+            list,
+            labels,
+            out,
+        ),
+    }
 }
