@@ -1,6 +1,6 @@
 -- The answer series of row codes are the plan's, and what they come to: `put_answer` and `answer_join`. Assumes nothing.
-use Prim.Native.Nat.{ℕ, zero, suc, _+_, _*_, _/_, _%_, _≤_, _<_}
-use mathlib.Core.Path.{_≡_, refl, sym, ap, _∙_}
+use Prim.Native.Nat.{ℕ, suc, _*_, _/_, _%_, _≤_, _<_}
+use mathlib.Core.Path.{_≡_, refl, sym, _∙_}
 use mathlib.Core.Bool.{Bool, true, false, _||_, cond}
 use mathlib.Core.List.{List, [], _∷_, map}
 use native.Mathlib.Omega.{arith}
@@ -8,35 +8,31 @@ use lib.Dec.{ltb}
 use lib.ListN.{length, getD}
 use Rattle.model.specs.Limits.{maxSeries, maxPoints, maxLabelBytes}
 use Rattle.model.specs.Labels.{Labels}
-use Rattle.model.specs.Reading.{scalarOp}
 use Rattle.model.specs.Edits.{Names}
 use Rattle.model.specs.Query.{Query}
 use Rattle.model.specs.Vector.{Series}
-use Rattle.semantics.specs.Binop.{joinedLabels, joinRows, shouldResetMetricGroup}
 use Rattle.semantics.specs.Call.{fit}
-use Rattle.plan.specs.Merging.{rowAt, mergeLead, rowOf}
-use Rattle.plan.specs.Joins.{leadsOf, joinLabels, joinRow, joinSeries}
+use Rattle.plan.specs.Joins.{joinLabels, joinRow, joinSeries}
 use Rattle.plan.specs.Pairs.{noLabels}
 use Rattle.metric_name.specs.Lenient.{labelsOf}
-use Rattle.set_tags.specs.Records.{namingOf, edited}
 use Rattle.timeseries.specs.Sides.{recordAt, labelsIn}
 use Rattle.answers.specs.declared.Outcome.{Outcome}
 use Rattle.answers.specs.declared.Outcome.the-variants as Out
 use Rattle.answers.specs.declared.Tally.{Tally}
 use Rattle.answers.specs.declared.Room.{Room}
 use Rattle.answers.specs.declared.Room.the-variants as Room
-use Rattle.answers.specs.Outcomes.{Ran, startingWith}
-use Rattle.answers.specs.Tallies.{recordsOf, someWide, TallyOf, roomOf}
+use Rattle.answers.specs.Outcomes.{Ran}
+use Rattle.answers.specs.Tallies.{recordsOf, TallyOf, roomOf}
 use Rattle.answers.proofs.Tallies.{records-fit, rows-fit}
 use Rattle.answers.proofs.Concluding.{ran-too-large, ran-too-long, ran-answer}
-use Rattle.join_leads.specs.Lent.{Lent, ListedBy, joined-labels}
+use Rattle.join_leads.specs.Lent.{Lent, joined-labels}
 use Rattle.join_leads.proofs.Marking.{labels-here}
 use Rattle.join_rows.specs.declared.Work.{Work}
-use Rattle.join_rows.specs.Sides.{OneLent, JoinLent, sidesOf}
+use Rattle.join_rows.specs.Sides.{JoinLent, sidesOf}
 use Rattle.join_rows.specs.Codes.{sideOf, CodeIn, rowLabels}
 use Rattle.join_plan.proofs.Planning.{two-overlaps}
-use Rattle.joins.specs.Records.{Records, CodeRecords, RecordsIn}
-use Rattle.joins.specs.Readings.{leadsAt, mergesAt, codeReadings, JoinAsked, RowsPut}
+use Rattle.joins.specs.Records.{Records, RecordsIn}
+use Rattle.joins.specs.Readings.{mergesAt, codeReadings, JoinAsked}
 use Rattle.joins.specs.Joined.{WorkOf, pointsOf, AnswerRoom, AnswerPut, Answered}
 
 -- the records of codes

@@ -1,19 +1,18 @@
 -- The leaders of the many-side place of a code, kept from row to row: `leads_for` and `put_code_row`. Assumes nothing.
-use Prim.Native.Nat.{ℕ, _+_, _*_, _/_, _%_, _≤_, _<_}
-use mathlib.Core.Path.{_≡_, refl, sym, ap, _∙_}
+use Prim.Native.Nat.{ℕ, _*_, _/_, _%_, _≤_, _<_}
+use mathlib.Core.Path.{_≡_}
 use mathlib.Core.List.{List}
 use native.Mathlib.Omega.{arith}
 use lib.ListN.{length, getD, take, drop}
 use Rattle.model.specs.Labels.{WellFormed}
 use Rattle.model.specs.Edits.{Names}
-use Rattle.model.specs.Query.{Query}
 use Rattle.metric_name.specs.Lenient.{labelsOf}
 use Rattle.timeseries.specs.Sides.{recordAt}
-use Rattle.join_leads.specs.Lent.{Lent, ListedBy}
+use Rattle.join_leads.specs.Lent.{Lent}
 use Rattle.join_leads.specs.Marks.{Marked}
 use Rattle.join_leads.proofs.Marking.{marked-long}
 use Rattle.join_rows.specs.declared.Work.{Work}
-use Rattle.join_rows.specs.Sides.{OneLent, JoinLent}
+use Rattle.join_rows.specs.Sides.{JoinLent}
 use Rattle.join_rows.specs.Codes.{CodeIn}
 use Rattle.join_rows.specs.Written.{LeadRow}
 use Rattle.joins.specs.Readings.{LeadsFor, CodeRow}

@@ -1,7 +1,7 @@
 -- The edited records of row codes: `code_size`, `tally_join`, `put_code_labels` and `put_join_labels`. Assumes nothing.
-use Prim.Native.Nat.{ℕ, zero, suc, _+_, _-_, _*_, _/_, _%_, _≤_, _<_}
-use mathlib.Core.Path.{_≡_, refl, sym, ap, _∙_}
-use mathlib.Core.Bool.{Bool, true, false, _||_, cond}
+use Prim.Native.Nat.{ℕ, zero, suc, _+_, _-_, _/_, _%_, _≤_, _<_}
+use mathlib.Core.Path.{_≡_, refl}
+use mathlib.Core.Bool.{Bool, true, false, _||_}
 use mathlib.Core.List.{List, [], _∷_}
 use native.Mathlib.Omega.{arith}
 use lib.Dec.{ltb}
@@ -9,7 +9,7 @@ use lib.ListN.{length, getD}
 use borrow.Author.Tests.{ltb-false}
 use Rattle.model.specs.Limits.{maxTags}
 use Rattle.model.specs.Labels.{Labels, WellFormed}
-use Rattle.model.specs.Record.{encode, encodeTags}
+use Rattle.model.specs.Record.{encode}
 use Rattle.model.specs.Edits.{Names}
 use Rattle.metric_name.specs.Lenient.{labelsOf}
 use Rattle.label_edits.specs.Written.{Put}
@@ -23,7 +23,7 @@ use Rattle.set_tags.specs.Records.{ShortRecords, nameOf, edited}
 use Rattle.set_tags.proofs.Sizes.{edited-short}
 use Rattle.timeseries.specs.Sides.{recordAt, Positions}
 use Rattle.answers.specs.declared.Tally.{Tally}
-use Rattle.answers.specs.Tallies.{mostOfRecord, mostBytes, noTally, withSize, recordsOf, someWide, TallyOf}
+use Rattle.answers.specs.Tallies.{mostBytes, noTally, withSize, recordsOf, someWide, TallyOf}
 use Rattle.answers.proofs.Tallies.{Tallying, tally-starts, tally-room, tally-turn, tally-ends}
 use Rattle.answers.proofs.Writing.{Writing, writing-starts, writing-room, writing-turn, writing-length, writing-ends, writing-count}
 use Rattle.join_rows.specs.Codes.{rowLabels}

@@ -1,7 +1,7 @@
 -- The readings of row codes, each in its own part: `put_led_rows` and `put_join_rows`. Assumes nothing.
-use Prim.Native.Nat.{ℕ, suc, _+_, _-_, _*_, _/_, _%_, _≤_, _<_}
-use mathlib.Core.Path.{_≡_, refl, sym, ap, _∙_}
-use mathlib.Core.List.{List, [], _∷_}
+use Prim.Native.Nat.{ℕ, _+_, _-_, _*_, _/_, _≤_, _<_}
+use mathlib.Core.Path.{_≡_, sym, _∙_}
+use mathlib.Core.List.{List}
 use native.Mathlib.Nat.{mul-le-mul}
 use native.Mathlib.Omega.{arith}
 use mir.Syntax.{w64}
@@ -12,11 +12,11 @@ use borrow.Rule.Slice.PartMut.{putMid}
 use Rattle.model.specs.Limits.{maxSeries, maxPoints}
 use Rattle.model.specs.Edits.{Names}
 use Rattle.model.specs.Query.{Query}
-use Rattle.answers.proofs.Rows.{Wide, RowsWriting, rows-start, rows-length, row-within, rows-turn, rows-end}
-use Rattle.join_leads.specs.Lent.{Lent, ListedBy}
+use Rattle.answers.proofs.Rows.{RowsWriting, rows-start, rows-length, row-within, rows-turn, rows-end}
+use Rattle.join_leads.specs.Lent.{ListedBy}
 use Rattle.join_leads.proofs.Marking.{someone}
 use Rattle.join_rows.specs.declared.Work.{Work}
-use Rattle.join_rows.specs.Sides.{OneLent, JoinLent}
+use Rattle.join_rows.specs.Sides.{JoinLent}
 use Rattle.join_rows.specs.Codes.{CodeIn}
 use Rattle.joins.specs.Readings.{mergesAt, codeReadings, LeadsFor, CodeRow, JoinAsked, RowsPut}
 use Rattle.joins.proofs.Widths.{readings-long}

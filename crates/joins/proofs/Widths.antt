@@ -1,20 +1,17 @@
 -- Merges and operators keep the width of a row, so the row of a code has p readings. Assumes nothing.
-use Prim.Native.Nat.{ℕ, suc, _+_, _*_, _/_, _%_, _≤_, _<_}
+use Prim.Native.Nat.{ℕ, suc, _/_, _%_}
 use mathlib.Core.Path.{_≡_, refl, sym, ap, _∙_}
 use mathlib.Core.Bool.{Bool, true, false, cond, _||_}
 use mathlib.Core.Option.{Option, none, some}
 use mathlib.Core.List.{List, [], _∷_}
 use native.Mathlib.Omega.{arith}
 use lib.Dec.{eqb, leb, ltb}
-use lib.ListN.{length, getD, drop}
-use Rattle.model.specs.Lists.{cases}
+use lib.ListN.{length, drop}
 use Rattle.model.specs.Row.{zipWith, overlaps, overwritten, merged}
 use Rattle.model.specs.Reading.{scalarOp}
-use Rattle.model.specs.Edits.{Names}
-use Rattle.model.specs.Query.{Query, left, right}
+use Rattle.model.specs.Query.{Query}
 use Rattle.semantics.specs.Binop.{joinRows}
-use Rattle.plan.specs.Merging.{RowMerge, row, failedAt, rowAt, onRow, mergeGroup, mergeLead, rowOf}
-use Rattle.join_leads.specs.Lent.{ListedBy}
+use Rattle.plan.specs.Merging.{row, failedAt, rowAt, onRow, mergeGroup, mergeLead, rowOf}
 use Rattle.join_rows.specs.declared.Work.{Work}
 use Rattle.join_rows.specs.Sides.{JoinLent}
 use Rattle.join_rows.specs.Codes.{sideOf, CodeIn}

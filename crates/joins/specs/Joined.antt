@@ -1,12 +1,14 @@
 -- What a join comes to and leaves in the output parts: its answer, by codes and whole. Assumes nothing.
 use Prim.Native.Nat.{ℕ, _*_, _≤_}
 use mathlib.Core.Path.{_≡_}
-use mathlib.Core.Bool.{false}
+use mathlib.Core.Bool.{Bool, false, cond}
+use mathlib.Core.Option.{none}
 use mathlib.Core.List.{List, map}
-use lib.ListN.{length}
+use lib.ListN.{length, take}
+use Rattle.model.specs.Limits.{maxSeries}
 use Rattle.model.specs.Labels.{Labels}
 use Rattle.model.specs.Edits.{Names}
-use Rattle.model.specs.Query.{Query}
+use Rattle.model.specs.Query.{Query, Side}
 use Rattle.model.specs.Vector.{Shape}
 use Rattle.semantics.specs.Call.{fit}
 use Rattle.semantics.specs.Binop.{shouldResetMetricGroup}
@@ -15,12 +17,12 @@ use Rattle.plan.specs.Joins.{joinClash, joinRowsFrom, joinSeries}
 use Rattle.set_tags.specs.Records.{namingOf}
 use Rattle.timeseries.specs.Sides.{labelsIn}
 use Rattle.answers.specs.declared.Outcome.{Outcome}
-use Rattle.answers.specs.declared.Outcome.the-variants.{Answer}
+use Rattle.answers.specs.declared.Outcome.the-variants.{Answer, LeftTwice, RightTwice}
 use Rattle.answers.specs.Outcomes.{startingWith, Ran}
 use Rattle.answers.specs.Tallies.{recordsOf, someWide}
 use Rattle.join_leads.specs.Lent.{ListedBy}
 use Rattle.join_rows.specs.declared.Work.{Work}
-use Rattle.join_rows.specs.Sides.{sidesOf}
+use Rattle.join_rows.specs.Sides.{JoinLent, sidesOf}
 use Rattle.join_rows.specs.Codes.{sideOf, rowLabels}
 use Rattle.joins.specs.Readings.{RowsPut}
 
@@ -51,11 +53,27 @@ pub record Answered (w : Work) (join skip : Names) (p : ℕ) (manyArray manyAt m
   pub each : (q : Query) → WorkOf q join skip w
       → Ran (fit (length labels₀) (length out₀) (pointsOf p) (map (joinSeries q (sideOf (w .left)) (sidesOf p manyArray manyAt manyKeys manyRows array at keys rows)) list)) labels₀ out₀ labels out r
 
+-- a join without a clash, whose n answer rows are at the start of the list if there are at most 512
+pub record RowsPlannedBy (q : Query) (many : Side) (p : ℕ) (manyArray manyAt manyKeys manyRows array at keys rows list : List ℕ) (n : ℕ) : Type 0 where
+  pub clash : joinClash q many (sidesOf p manyArray manyAt manyKeys manyRows array at keys rows) manyKeys (labelsIn manyArray manyAt) ≡ none
+  pub count : n ≡ length (joinRowsFrom q (sidesOf p manyArray manyAt manyKeys manyRows array at keys rows) 0 manyKeys (labelsIn manyArray manyAt))
+  pub listed : n ≤ maxSeries → take n list ≡ joinRowsFrom q (sidesOf p manyArray manyAt manyKeys manyRows array at keys rows) 0 manyKeys (labelsIn manyArray manyAt)
+
+-- under each query with these lists
+pub record RowsPlanned (join skip : Names) (p : ℕ) (manyArray manyAt manyKeys manyRows array at keys rows list : List ℕ) (n : ℕ) : Type 0 where
+  pub lent : JoinLent p manyArray manyAt manyKeys manyRows array at keys rows
+  pub full : length list ≡ maxSeries
+  pub each : (q : Query) → ListedBy q join skip → (many : Side) → RowsPlannedBy q many p manyArray manyAt manyKeys manyRows array at keys rows list n
+
+-- 01: 7 left or 8 right duplicate. Of a join, on the one side.
+abbrev pub oneTwice : Bool → ℕ → ℕ → Outcome
+oneTwice left kept failed = cond left (RightTwice kept failed) (LeftTwice kept failed)
+
 -- a join: its first clash, or its answer series as they fit
 pub record Joined (w : Work) (join skip : Names) (p : ℕ) (manyArray manyAt manyKeys manyRows array at keys rows labels₀ out₀ labels out : List ℕ) (r : Outcome) : Type 0 where
-  pub each : (q : Query) → ListedBy q join skip → q .operator ≡ w .operator → q .bool ≡ w .bool → w .naming ≡ namingOf join skip (shouldResetMetricGroup q)
+  pub each : (q : Query) → WorkOf q join skip w
       → Ran
-      (conclude (length labels₀) (length out₀) (record { points = p })
+      (conclude (length labels₀) (length out₀) (pointsOf p)
       (joinClash q (sideOf (w .left)) (sidesOf p manyArray manyAt manyKeys manyRows array at keys rows) manyKeys (labelsIn manyArray manyAt))
       (map (joinSeries q (sideOf (w .left)) (sidesOf p manyArray manyAt manyKeys manyRows array at keys rows))
       (joinRowsFrom q (sidesOf p manyArray manyAt manyKeys manyRows array at keys rows) 0 manyKeys (labelsIn manyArray manyAt))))

@@ -19,7 +19,7 @@ ghost use Rattle.join_rows.specs.Sides.{JoinLent};
 ghost use Rattle.join_rows.specs.Codes.{CodeIn, rowLabels};
 ghost use Rattle.joins.specs.Records.{CodeRecords, RecordsIn, SizedEdited, LabelRoom, LabelsPut};
 ghost use Rattle.joins.specs.Readings.{LeadsFor, CodeRow, JoinAsked, RowsPut};
-ghost use Rattle.joins.specs.Joined.{AnswerRoom, AnswerPut, Answered, Joined};
+ghost use Rattle.joins.specs.Joined.{AnswerRoom, AnswerPut, Answered, RowsPlanned, oneTwice, Joined};
 
 // The size of a code's edited record.
 fn code_size<'a>(
@@ -396,6 +396,117 @@ fn answer_join<'a>(
             join,
             skip,
             list,
+            labels,
+            out,
+        ),
+    }
+}
+
+// A merge that fails is one of the one side, which is right where the many side is left.
+fn one_twice(left: bool, kept: usize, failed: usize) -> Outcome
+    ensures { λ r. ⌜ r ≡ oneTwice left kept failed ⌝ }
+{
+    if left {
+        Outcome::RightTwice { kept, failed }
+    } else {
+        Outcome::LeftTwice { kept, failed }
+    }
+}
+
+// The answer of a join without a clash, whose n rows are at the start of the list if it holds them.
+fn answer_rows<'a>(
+    w: Work,
+    p: usize,
+    many_array: &'a [u8],
+    many_at: &[usize],
+    many_keys: &[usize],
+    many_rows: &[u64],
+    array: &'a [u8],
+    at: &[usize],
+    keys: &[usize],
+    rows: &[u64],
+    join: &[u8],
+    skip: &[u8],
+    list: &[usize],
+    n: usize,
+    labels: &mut [u8],
+    out: &mut [u64],
+) -> Outcome
+    requires planned { ⌜ RowsPlanned (namesOf (now join)) (namesOf (now skip)) p (now «many_array») (now «many_at») (now «many_keys») (now «many_rows») (now array) (now at) (now keys) (now rows) (now list) n ⌝ }
+    ensures { λ r. ⌜ Joined w (namesOf (now (join .entry))) (namesOf (now (skip .entry))) p (now («many_array» .entry)) (now («many_at» .entry)) (now («many_keys» .entry)) (now («many_rows» .entry)) (now (array .entry)) (now (at .entry)) (now (keys .entry)) (now (rows .entry)) (now (labels .entry)) (now (out .entry)) (now (labels .exit)) (now (out .exit)) r ⌝ }
+{
+    if 512 < n {
+        return Outcome::TooLarge;
+    }
+    answer_join(
+        w,
+        p,
+        many_array,
+        many_at,
+        many_keys,
+        many_rows,
+        array,
+        at,
+        keys,
+        rows,
+        join,
+        skip,
+        &list[..n],
+        labels,
+        out,
+    )
+}
+
+// Runs a join: the many side's label array, positions, key numbers and rows, then the one side's, with p readings a row.
+pub fn group_join<'a>(
+    w: Work,
+    p: usize,
+    many_array: &'a [u8],
+    many_at: &[usize],
+    many_keys: &[usize],
+    many_rows: &[u64],
+    array: &'a [u8],
+    at: &[usize],
+    keys: &[usize],
+    rows: &[u64],
+    join: &[u8],
+    skip: &[u8],
+    labels: &mut [u8],
+    out: &mut [u64],
+) -> Outcome
+    requires lent { ⌜ JoinLent p (now «many_array») (now «many_at») (now «many_keys») (now «many_rows») (now array) (now at) (now keys) (now rows) ⌝ }
+    ensures { λ r. ⌜ Joined w (namesOf (now (join .entry))) (namesOf (now (skip .entry))) p (now («many_array» .entry)) (now («many_at» .entry)) (now («many_keys» .entry)) (now («many_rows» .entry)) (now (array .entry)) (now (at .entry)) (now (keys .entry)) (now (rows .entry)) (now (labels .entry)) (now (out .entry)) (now (labels .exit)) (now (out .exit)) r ⌝ }
+{
+    let mut list = [0usize; 512];
+    match join_plan::plan_join(
+        p,
+        many_array,
+        many_at,
+        many_keys,
+        array,
+        at,
+        keys,
+        rows,
+        join,
+        skip,
+        &mut list,
+    ) {
+        Plan::Failed { kept, failed } => one_twice(w.left, kept, failed),
+        Plan::Rows(n) => answer_rows(
+            w,
+            p,
+            many_array,
+            many_at,
+            many_keys,
+            many_rows,
+            array,
+            at,
+            keys,
+            rows,
+            join,
+            skip,
+            &list,
+            n,
             labels,
             out,
         ),

@@ -1,34 +1,24 @@
+-- `answer_join` meets its contract. Assumes nothing.
 use borrow.Author.Needs.{needs}
 use Rattle.joins.proofs.Answers.{asked-records, room-made, answered-large, answered-long, answered-put}
 use Rattle.joins.proofs.answer_join.Statement.{statement}
 use Rattle.joins.proofs.answer_join.Tie as tie
-use Rattle.joins.proofs.answer_join.Reads as reads
-use Rattle.joins.proofs.answer_join.Lts as lts
-use Rattle.answers.proofs.room_for.Reads as room-for-reads
-use Rattle.joins.proofs.put_answer.Reads as put-answer-reads
-use Rattle.joins.proofs.tally_join.Reads as tally-join-reads
 
--- src/lib.rt:360:9
 tally-join-requires : tie.Need-tally-join-requires
 tally-join-requires c κs = search asked-records
 
--- src/lib.rt:361:11
 room-for-requires : tie.Need-room-for-requires
 room-for-requires c κs = search needs
 
--- src/lib.rt:362:27
 enum-told : tie.Need-enum-told
 enum-told c = search needs
 
--- src/lib.rt:363:26
 enum-told-2 : tie.Need-enum-told-2
 enum-told-2 c = search needs
 
--- src/lib.rt:366:13
 enum-told-3 : tie.Need-enum-told-3
 enum-told-3 c = search needs
 
--- src/lib.rt:364:23
 put-answer-requires : tie.Need-put-answer-requires
 put-answer-requires c κs =
     let fits = c .before .before .enum-told3 .given .1 in
@@ -36,23 +26,18 @@ put-answer-requires c κs =
     let tally = c .before .before .before .before .before .tally-join .ensures in
     (search needs, room-made _ _ _ tally _ _ _ _ asked fits)
 
--- src/lib.rt:339:1
 returns : tie.Need-returns
 returns c = search answered-large
 
--- src/lib.rt:339:1
 returns-2 : tie.Need-returns-2
 returns-2 c = search answered-long
 
--- src/lib.rt:339:1
 same-length : tie.Need-same-length
 same-length c = search needs
 
--- src/lib.rt:339:1
 same-length-2 : tie.Need-same-length-2
 same-length-2 c = search needs
 
--- src/lib.rt:339:1
 returns-3 : tie.Need-returns-3
 returns-3 c =
     let put = c .before .before .before .before .put-answer .ensures in

@@ -1,23 +1,16 @@
+-- `put_code_row` meets its contract. Assumes nothing.
 use borrow.Author.Needs.{needs}
 use Rattle.join_rows.proofs.Writing.{many-row-inside, many-row-wide}
 use Rattle.joins.proofs.Leaders.{many-lent, one-lent, row-narrow, lead-inside, leads-held, code-row}
 use Rattle.joins.proofs.put_code_row.Statement.{statement}
 use Rattle.joins.proofs.put_code_row.Tie as tie
-use Rattle.joins.proofs.put_code_row.Reads as reads
-use Rattle.joins.proofs.put_code_row.Lts as lts
-use Rattle.join_rows.proofs.lead_row.Reads as lead-row-reads
-use Rattle.joins.proofs.leads_for.Reads as leads-for-reads
-use Rattle.timeseries.proofs.row.Reads as row-reads
 
--- src/lib.rt:181:5
 leads-for-requires : tie.Need-leads-for-requires
 leads-for-requires c κs = (search many-lent, (search one-lent, (search needs, search needs)))
 
--- src/lib.rt:184:28
 row-requires : tie.Need-row-requires
 row-requires c κs = search many-row-inside
 
--- src/lib.rt:184:5
 lead-row-requires : tie.Need-lead-row-requires
 lead-row-requires c κs =
     let pre = c .before .before .before .before .before .before .before .before .before .before .before .before .before .before .before .before .before .before .before .pre in
@@ -27,15 +20,12 @@ lead-row-requires c κs =
     let many = c .before .before .row .ensures in
     (search lead-inside, (search leads-held, (search many-row-wide, search row-narrow)))
 
--- src/lib.rt:156:1
 same-length : tie.Need-same-length
 same-length c = search needs
 
--- src/lib.rt:156:1
 same-length-2 : tie.Need-same-length-2
 same-length-2 c = search needs
 
--- src/lib.rt:156:1
 returns : tie.Need-returns
 returns c =
     let code = c .before .before .before .before .before .before .before .before .before .before .before .before .before .before .before .before .before .before .before .before .before .before .pre .1 .0 in

@@ -1,3 +1,4 @@
+-- `put_join_labels` meets its contract. Assumes nothing.
 use borrow.Author.Needs.{needs}
 use Prim.Native.Nat.{_-_}
 use lib.ListN.{length}
@@ -6,9 +7,6 @@ use Rattle.join_rows.specs.Codes.{rowLabels}
 use Rattle.joins.proofs.Records.{Labelling, code-held, labels-start, label-room, labels-turn, labels-end, labels-long}
 use Rattle.joins.proofs.put_join_labels.Statement.{statement}
 use Rattle.joins.proofs.put_join_labels.Tie as tie
-use Rattle.joins.proofs.put_join_labels.Reads as reads
-use Rattle.joins.proofs.put_join_labels.Lts as lts
-use Rattle.joins.proofs.put_code_labels.Reads as put-code-labels-reads
 
 abbrev Inv-loop : tie.InvT-loop
 Inv-loop many-array many-at array at list join skip naming out₀ o₀ r₀ out o r = Labelling (rowLabels (namesOf join) (namesOf skip) naming many-array many-at array at) list out₀ r out o
@@ -16,39 +14,30 @@ Inv-loop many-array many-at array at list join skip naming out₀ o₀ r₀ out 
 abbrev μ-loop : tie.MeasureT-loop
 μ-loop many-array many-at array at list join skip naming out₀ o₀ r₀ out o r = length list - r
 
--- src/lib.rt:105:5
 loop-holds : tie.Need-loop-holds Inv-loop μ-loop
 loop-holds c = search labels-start
 
--- src/lib.rt:106:61
 mul-put-code-labels : tie.Need-mul-put-code-labels Inv-loop μ-loop
 mul-put-code-labels c = search needs
 
--- src/lib.rt:106:61
 shared-slice-read-put-code-labels : tie.Need-shared-slice-read-put-code-labels Inv-loop μ-loop
 shared-slice-read-put-code-labels c = search needs
 
--- src/lib.rt:106:9
 put-code-labels-requires : tie.Need-put-code-labels-requires Inv-loop μ-loop
 put-code-labels-requires c κs = (search code-held, label-room _ _ _ _ _ _ (c .before .before .before .loop .inv) (c .before .before .loop-test .taken))
 
--- src/lib.rt:107:9
 add-r : tie.Need-add-r Inv-loop μ-loop
 add-r c = search needs
 
--- src/lib.rt:105:5
 loop-less : tie.Need-loop-less Inv-loop μ-loop
 loop-less c = search needs
 
--- src/lib.rt:105:5
 loop-again : tie.Need-loop-again Inv-loop μ-loop
 loop-again c = search labels-turn
 
--- src/lib.rt:87:1
 same-length : tie.Need-same-length Inv-loop μ-loop
 same-length c = search labels-long
 
--- src/lib.rt:87:1
 returns : tie.Need-returns Inv-loop μ-loop
 returns c = search labels-end
 

@@ -1,3 +1,4 @@
+-- `put_led_rows` meets its contract. Assumes nothing.
 use borrow.Author.Needs.{needs}
 use Prim.Native.Nat.{_-_}
 use lib.ListN.{length}
@@ -5,9 +6,6 @@ use Rattle.labels.specs.Names.{namesOf}
 use Rattle.joins.proofs.Rows.{RowsDone, rows-begin, rows-long, rows-put, from-fits, to-fits, bytes-fit, part-within, part-lent, code-in, leads-known, rows-next, leads-long}
 use Rattle.joins.proofs.put_led_rows.Statement.{statement}
 use Rattle.joins.proofs.put_led_rows.Tie as tie
-use Rattle.joins.proofs.put_led_rows.Reads as reads
-use Rattle.joins.proofs.put_led_rows.Lts as lts
-use Rattle.joins.proofs.put_code_row.Reads as put-code-row-reads
 
 abbrev Inv-loop : tie.InvT-loop
 Inv-loop w p many-array many-at many-keys many-rows array at keys rows join skip list leads₀ out₀ marked₀ r₀ leads out marked r =
@@ -17,67 +15,51 @@ abbrev μ-loop : tie.MeasureT-loop
 μ-loop w p many-array many-at many-keys many-rows array at keys rows join skip list leads₀ out₀ marked₀ r₀ leads out marked r =
     length list - r
 
--- src/lib.rt:215:5
 loop-holds : tie.Need-loop-holds Inv-loop μ-loop
 loop-holds c = search rows-begin
 
--- src/lib.rt:216:17
 mul-x : tie.Need-mul-x Inv-loop μ-loop
 mul-x c = search needs
 
--- src/lib.rt:216:17
 shared-slice-read-x : tie.Need-shared-slice-read-x Inv-loop μ-loop
 shared-slice-read-x c = search needs
 
--- src/lib.rt:217:20
 mul-from : tie.Need-mul-from Inv-loop μ-loop
 mul-from c = search from-fits
 
--- src/lib.rt:218:18
 add-to : tie.Need-add-to Inv-loop μ-loop
 add-to c = search to-fits
 
--- src/lib.rt:234:13
 mul-put-code-row : tie.Need-mul-put-code-row Inv-loop μ-loop
 mul-put-code-row c = search bytes-fit
 
--- src/lib.rt:234:13
 sub-put-code-row : tie.Need-sub-put-code-row Inv-loop μ-loop
 sub-put-code-row c = search needs
 
--- src/lib.rt:234:13
 part-put-code-row-start : tie.Need-part-put-code-row-start Inv-loop μ-loop
 part-put-code-row-start c = search needs
 
--- src/lib.rt:234:13
 part-put-code-row-end : tie.Need-part-put-code-row-end Inv-loop μ-loop
 part-put-code-row-end c = search part-within
 
--- src/lib.rt:219:9
 put-code-row-requires : tie.Need-put-code-row-requires Inv-loop μ-loop
 put-code-row-requires c κs = (part-lent _ _ _ _ _ _ _ _ _ _ _ _ _ _ _ _ _ _ (c .before .before .before .before .loop .inv) (c .before .before .before .loop-test .taken), (search code-in, search leads-known))
 
--- src/lib.rt:237:9
 add-r : tie.Need-add-r Inv-loop μ-loop
 add-r c = search needs
 
--- src/lib.rt:215:5
 loop-less : tie.Need-loop-less Inv-loop μ-loop
 loop-less c = search needs
 
--- src/lib.rt:215:5
 loop-again : tie.Need-loop-again Inv-loop μ-loop
 loop-again c = search rows-next
 
--- src/lib.rt:191:1
 same-length : tie.Need-same-length Inv-loop μ-loop
 same-length c = search leads-long
 
--- src/lib.rt:191:1
 same-length-2 : tie.Need-same-length-2 Inv-loop μ-loop
 same-length-2 c = search rows-long
 
--- src/lib.rt:191:1
 returns : tie.Need-returns Inv-loop μ-loop
 returns c = search rows-put
 

@@ -1,3 +1,4 @@
+-- `tally_join` meets its contract. Assumes nothing.
 use borrow.Author.Needs.{needs}
 use Prim.Native.Nat.{_-_}
 use lib.ListN.{length}
@@ -7,10 +8,6 @@ use Rattle.join_rows.specs.Codes.{rowLabels}
 use Rattle.joins.proofs.Records.{code-held, tally-begins, edited-room, edited-turn, edited-ends}
 use Rattle.joins.proofs.tally_join.Statement.{statement}
 use Rattle.joins.proofs.tally_join.Tie as tie
-use Rattle.joins.proofs.tally_join.Reads as reads
-use Rattle.joins.proofs.tally_join.Lts as lts
-use Rattle.answers.proofs.tallied.Reads as tallied-reads
-use Rattle.joins.proofs.code_size.Reads as code-size-reads
 
 abbrev Inv-loop : tie.InvT-loop
 Inv-loop many-array many-at array at list join skip naming t₀ r₀ t r = Tallying (rowLabels (namesOf join) (namesOf skip) naming many-array many-at array at) list r t
@@ -18,39 +15,30 @@ Inv-loop many-array many-at array at list join skip naming t₀ r₀ t r = Tally
 abbrev μ-loop : tie.MeasureT-loop
 μ-loop many-array many-at array at list join skip naming t₀ r₀ t r = length list - r
 
--- src/lib.rt:56:5
 loop-holds : tie.Need-loop-holds Inv-loop μ-loop
 loop-holds c = search tally-begins
 
--- src/lib.rt:57:59
 mul-code-size : tie.Need-mul-code-size Inv-loop μ-loop
 mul-code-size c = search needs
 
--- src/lib.rt:57:59
 shared-slice-read-code-size : tie.Need-shared-slice-read-code-size Inv-loop μ-loop
 shared-slice-read-code-size c = search needs
 
--- src/lib.rt:57:13
 code-size-requires : tie.Need-code-size-requires Inv-loop μ-loop
 code-size-requires c κs = search code-held
 
--- src/lib.rt:58:9
 tallied-requires : tie.Need-tallied-requires Inv-loop μ-loop
 tallied-requires c κs = search edited-room
 
--- src/lib.rt:59:9
 add-r : tie.Need-add-r Inv-loop μ-loop
 add-r c = search needs
 
--- src/lib.rt:56:5
 loop-less : tie.Need-loop-less Inv-loop μ-loop
 loop-less c = search needs
 
--- src/lib.rt:56:5
 loop-again : tie.Need-loop-again Inv-loop μ-loop
 loop-again c = search edited-turn
 
--- src/lib.rt:38:1
 returns : tie.Need-returns Inv-loop μ-loop
 returns c = search edited-ends
 
