@@ -229,10 +229,10 @@ fn put_led_rows<'a>(
     ensures { λ _. ⌜ RowsPut w (namesOf (now (join .entry))) (namesOf (now (skip .entry))) p (now («many_array» .entry)) (now («many_at» .entry)) (now («many_keys» .entry)) (now («many_rows» .entry)) (now (array .entry)) (now (at .entry)) (now (keys .entry)) (now (rows .entry)) (now (list .entry)) (now (out .entry)) (now (out .exit)) ⌝ }
 {
     let mut marked = NO_PLACE;
-    let mut r: usize = 0;
-    while r < list.len() {
-        let x = list[r];
-        let from = r * p;
+    let mut i: usize = 0;
+    while i < list.len() {
+        let x = list[i];
+        let from = i * p;
         let to = from + p;
         put_code_row(
             w,
@@ -252,7 +252,7 @@ fn put_led_rows<'a>(
             &mut out[from..to],
         );
         marked = x / 512;
-        r += 1;
+        i += 1;
     }
 }
 

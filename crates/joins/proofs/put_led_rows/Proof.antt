@@ -8,12 +8,12 @@ use Rattle.joins.proofs.put_led_rows.Statement.{statement}
 use Rattle.joins.proofs.put_led_rows.Tie as tie
 
 abbrev Inv-loop : tie.InvT-loop
-Inv-loop w p many-array many-at many-keys many-rows array at keys rows join skip list leads₀ out₀ marked₀ r₀ leads out marked r =
-    RowsDone w (namesOf join) (namesOf skip) p many-array many-at many-keys many-rows array at keys rows list out₀ leads out marked r
+Inv-loop w p many-array many-at many-keys many-rows array at keys rows join skip list leads₀ out₀ marked₀ i₀ leads out marked i =
+    RowsDone w (namesOf join) (namesOf skip) p many-array many-at many-keys many-rows array at keys rows list out₀ leads out marked i
 
 abbrev μ-loop : tie.MeasureT-loop
-μ-loop w p many-array many-at many-keys many-rows array at keys rows join skip list leads₀ out₀ marked₀ r₀ leads out marked r =
-    length list - r
+μ-loop w p many-array many-at many-keys many-rows array at keys rows join skip list leads₀ out₀ marked₀ i₀ leads out marked i =
+    length list - i
 
 loop-holds : tie.Need-loop-holds Inv-loop μ-loop
 loop-holds c = search rows-begin
@@ -45,8 +45,8 @@ part-put-code-row-end c = search part-within
 put-code-row-requires : tie.Need-put-code-row-requires Inv-loop μ-loop
 put-code-row-requires c κs = (part-lent _ _ _ _ _ _ _ _ _ _ _ _ _ _ _ _ _ _ (c .before .before .before .before .loop .inv) (c .before .before .before .loop-test .taken), (search code-in, search leads-known))
 
-add-r : tie.Need-add-r Inv-loop μ-loop
-add-r c = search needs
+add-i : tie.Need-add-i Inv-loop μ-loop
+add-i c = search needs
 
 loop-less : tie.Need-loop-less Inv-loop μ-loop
 loop-less c = search needs
@@ -79,7 +79,7 @@ put-led-rows-spec =
     part-put-code-row-start
     part-put-code-row-end
     put-code-row-requires
-    add-r
+    add-i
     loop-less
     loop-again
     same-length
