@@ -73,7 +73,7 @@ module _ (p : ℕ) (ma mt mk mr a t k r : List ℕ) (lent : JoinLent p ma mt mk 
 
 -- the records are those of the code
 module _ (join skip : Names) (ma mt a t : List ℕ) (x : ℕ) (rec : List ℕ) (hr : rec ≡ recordAt ma mt (x / 512)) (src : List ℕ) (hs : src ≡ recordAt a t (x % 512)) (naming : Naming) where
-  labels-are : rowLabels join skip naming ma mt a t x ≡ edited join skip naming rec src
+  pub labels-are : rowLabels join skip naming ma mt a t x ≡ edited join skip naming rec src
   unfolding rowLabels
   labels-are = rw (hr, hs)
 

@@ -62,7 +62,7 @@ fn merged_row(
 }
 
 // The answer row of a leader. One without others behind it goes to the operator as it is.
-fn lead_row(w: Work, many: &[u64], rows: &[u64], leads: &[usize], o: usize, out: &mut [u64])
+pub fn lead_row(w: Work, many: &[u64], rows: &[u64], leads: &[usize], o: usize, out: &mut [u64])
     requires inside { ⌜ o < length (now leads) ⌝ }
     requires held { ⌜ length (now leads) * length (now out) ≤ length (now rows) ⌝ }
     requires wide { ⌜ length (now many) ≡ length (now out) ⌝ }

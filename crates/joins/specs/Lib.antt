@@ -1,1 +1,3 @@
-pub mod Plans
+pub mod Records
+pub mod Readings
+pub mod Joined

@@ -1,50 +1,167 @@
-// Joins: each many-side series with every same-key one-side series. A plan pass, which may refuse, and a write pass, which may not.
-use join_leads::Checked;
+// Joins run: planned, measured, then written. Only the plan and the measures can refuse, so a refusal leaves the output parts as they were.
+use answers::Outcome;
+use answers::Room;
+use answers::Tally;
+use join_plan::Plan;
+use join_rows::Work;
+use label_edits::Size;
+use set_tags::Naming;
 ghost use mathlib.Core.Path.{_≡_};
-ghost use Prim.Native.Nat.{_+_, _*_, _≤_, _<_};
+ghost use mathlib.Core.Bool.{false};
+ghost use Prim.Native.Nat.{_+_, _*_, _/_, _≤_, _<_};
 ghost use lib.ListN.{length};
-ghost use Rattle.model.specs.Labels.{WellFormed};
 ghost use Rattle.labels.specs.Names.{namesOf};
-ghost use Rattle.metric_name.specs.Lenient.{labelsOf};
+ghost use Rattle.model.specs.Record.{encode};
+ghost use Rattle.label_edits.specs.Written.{Put};
+ghost use Rattle.answers.specs.Tallies.{TallyOf, recordsOf, someWide};
 ghost use Rattle.join_leads.specs.Lent.{Lent};
-ghost use Rattle.join_leads.specs.Marks.{Marked};
-ghost use Rattle.join_leads.specs.Checks.{CodesFit};
-ghost use Rattle.join_rows.specs.Sides.{JoinLent, OneLent};
-ghost use Rattle.joins.specs.Plans.{LeadsPlanned, ManyPlanned, Planned};
+ghost use Rattle.join_rows.specs.Sides.{JoinLent};
+ghost use Rattle.join_rows.specs.Codes.{CodeIn, rowLabels};
+ghost use Rattle.joins.specs.Records.{CodeRecords, RecordsIn, SizedEdited, LabelRoom, LabelsPut};
+ghost use Rattle.joins.specs.Readings.{LeadsFor, CodeRow, JoinAsked, RowsPut};
+ghost use Rattle.joins.specs.Joined.{AnswerRoom, AnswerPut, Answered, RowsPlanned, oneTwice, Joined};
 
-// What planning a join comes to: how many answer rows, or the first merge that fails.
-pub enum Plan {
-    Rows(usize),
-    Failed { kept: usize, failed: usize },
-}
-
-// The merges behind the leaders of the many-side place m tried, and its answer rows noted behind the n before.
-fn plan_leads(
-    m: usize,
-    n: usize,
-    p: usize,
-    rows: &[u64],
-    leads: &[usize],
-    list: &mut [usize],
-) -> Plan
-    requires fit { ⌜ CodesFit m n (now leads) ⌝ }
-    requires held { ⌜ length (now leads) * p ≤ length (now rows) ⌝ }
-    requires narrow { ⌜ p ≤ 1024 ⌝ }
-    ensures { λ r. ⌜ LeadsPlanned m n p (now (rows .entry)) (now (leads .entry)) (now (list .entry)) (now (list .exit)) r ⌝ }
+// The size of a code's edited record.
+fn code_size<'a>(
+    many_array: &'a [u8],
+    many_at: &[usize],
+    array: &'a [u8],
+    at: &[usize],
+    x: usize,
+    join: &[u8],
+    skip: &[u8],
+    naming: Naming,
+) -> Size
+    requires held { ⌜ CodeRecords (now «many_array») (now «many_at») (now array) (now at) x ⌝ }
+    ensures { λ r. ⌜ SizedEdited (rowLabels (namesOf (now (join .entry))) (namesOf (now (skip .entry))) naming (now («many_array» .entry)) (now («many_at» .entry)) (now (array .entry)) (now (at .entry)) x) r ⌝ }
 {
-    match join_leads::check_leads(rows, p, leads, join_rows::ALLOWED) {
-        Checked::Done => Plan::Rows(join_leads::list_leads(leads, m, n, list)),
-        Checked::Failed { kept, failed } => Plan::Failed { kept, failed },
-    }
+    let rec = timeseries::record(many_array, many_at, x / 512);
+    let src = timeseries::record(array, at, x % 512);
+    set_tags::set_tags_size(rec, src, join, skip, naming)
 }
 
-// The many-side record at the place m, of the key k, with room for the leaders.
-fn plan_marked<'a>(
-    rec: &'a [u8],
+// What the edited records of codes come to.
+fn tally_join<'a>(
+    many_array: &'a [u8],
+    many_at: &[usize],
+    array: &'a [u8],
+    at: &[usize],
+    list: &[usize],
+    join: &[u8],
+    skip: &[u8],
+    naming: Naming,
+) -> Tally
+    requires held { ⌜ RecordsIn (now «many_array») (now «many_at») (now array) (now at) (now list) ⌝ }
+    ensures { λ r. ⌜ TallyOf (rowLabels (namesOf (now (join .entry))) (namesOf (now (skip .entry))) naming (now («many_array» .entry)) (now («many_at» .entry)) (now (array .entry)) (now (at .entry))) (now (list .entry)) r ⌝ }
+{
+    let mut t = Tally {
+        bytes: 0,
+        wide: false,
+    };
+    let mut r: usize = 0;
+    while r < list.len() {
+        let z = code_size(many_array, many_at, array, at, list[r], join, skip, naming);
+        t = answers::tallied(t, z);
+        r += 1;
+    }
+    t
+}
+
+// Writes a code's edited record, and gives the place behind it.
+fn put_code_labels<'a>(
+    many_array: &'a [u8],
+    many_at: &[usize],
+    array: &'a [u8],
+    at: &[usize],
+    x: usize,
+    join: &[u8],
+    skip: &[u8],
+    naming: Naming,
+    out: &mut [u8],
+    o: usize,
+) -> usize
+    requires held { ⌜ CodeRecords (now «many_array») (now «many_at») (now array) (now at) x ⌝ }
+    requires room { ⌜ LabelRoom (rowLabels (namesOf (now join)) (namesOf (now skip)) naming (now «many_array») (now «many_at») (now array) (now at) x) o (length (now out)) ⌝ }
+    ensures { λ r. ⌜ Put (now (out .entry)) o (encode (rowLabels (namesOf (now (join .entry))) (namesOf (now (skip .entry))) naming (now («many_array» .entry)) (now («many_at» .entry)) (now (array .entry)) (now (at .entry)) x)) (now (out .exit)) r ⌝ }
+{
+    let rec = timeseries::record(many_array, many_at, x / 512);
+    let src = timeseries::record(array, at, x % 512);
+    set_tags::set_tags(out, o, rec, src, join, skip, naming)
+}
+
+// Writes the edited records of codes one behind another, and gives their bytes.
+fn put_join_labels<'a>(
+    many_array: &'a [u8],
+    many_at: &[usize],
+    array: &'a [u8],
+    at: &[usize],
+    list: &[usize],
+    join: &[u8],
+    skip: &[u8],
+    naming: Naming,
+    out: &mut [u8],
+) -> usize
+    requires held { ⌜ RecordsIn (now «many_array») (now «many_at») (now array) (now at) (now list) ⌝ }
+    requires narrow { ⌜ someWide (rowLabels (namesOf (now join)) (namesOf (now skip)) naming (now «many_array») (now «many_at») (now array) (now at)) (now list) ≡ false ⌝ }
+    requires room { ⌜ length (recordsOf (rowLabels (namesOf (now join)) (namesOf (now skip)) naming (now «many_array») (now «many_at») (now array) (now at)) (now list)) ≤ length (now out) ⌝ }
+    ensures { λ r. ⌜ LabelsPut (rowLabels (namesOf (now (join .entry))) (namesOf (now (skip .entry))) naming (now («many_array» .entry)) (now («many_at» .entry)) (now (array .entry)) (now (at .entry))) (now (list .entry)) (now (out .entry)) (now (out .exit)) r ⌝ }
+{
+    let mut o: usize = 0;
+    let mut r: usize = 0;
+    while r < list.len() {
+        o = put_code_labels(
+            many_array,
+            many_at,
+            array,
+            at,
+            list[r],
+            join,
+            skip,
+            naming,
+            out,
+            o,
+        );
+        r += 1;
+    }
+    o
+}
+
+// Makes the leads those of the many-side place m, unless they are: `marked` is the place that they stand for.
+fn leads_for<'a>(
     m: usize,
-    k: usize,
-    n: usize,
-    p: usize,
+    marked: usize,
+    many_array: &'a [u8],
+    many_at: &[usize],
+    many_keys: &[usize],
+    array: &'a [u8],
+    at: &[usize],
+    keys: &[usize],
+    join: &[u8],
+    skip: &[u8],
+    leads: &mut [usize],
+)
+    requires many { ⌜ Lent (now «many_array») (now «many_at») (now «many_keys») ⌝ }
+    requires one { ⌜ Lent (now array) (now at) (now keys) ⌝ }
+    requires inside { ⌜ m < length (now «many_keys») ⌝ }
+    requires before { ⌜ LeadsFor (namesOf (now join)) (namesOf (now skip)) marked (now «many_array») (now «many_at») (now «many_keys») (now array) (now at) (now keys) (now leads) ⌝ }
+    ensures { λ _. ⌜ LeadsFor (namesOf (now (join .entry))) (namesOf (now (skip .entry))) m (now («many_array» .entry)) (now («many_at» .entry)) (now («many_keys» .entry)) (now (array .entry)) (now (at .entry)) (now (keys .entry)) (now (leads .exit)) ⌝ }
+{
+    if marked == m {
+        return;
+    }
+    let rec = timeseries::record(many_array, many_at, m);
+    join_leads::mark_leads(rec, many_keys[m], array, at, keys, join, skip, leads);
+}
+
+// Writes the readings of the code x, by its leaders. They are marked anew only for another many-side place than before.
+fn put_code_row<'a>(
+    w: Work,
+    x: usize,
+    marked: usize,
+    many_array: &'a [u8],
+    many_at: &[usize],
+    many_keys: &[usize],
+    many_rows: &[u64],
     array: &'a [u8],
     at: &[usize],
     keys: &[usize],
@@ -52,88 +169,346 @@ fn plan_marked<'a>(
     join: &[u8],
     skip: &[u8],
     leads: &mut [usize],
-    list: &mut [usize],
-) -> Plan
-    requires formed { ⌜ WellFormed (labelsOf (now rec)) ⌝ }
-    requires one { ⌜ OneLent p (now array) (now at) (now keys) (now rows) ⌝ }
-    requires fit { ⌜ CodesFit m n (now keys) ⌝ }
-    requires long { ⌜ length (now leads) ≡ length (now keys) ⌝ }
-    ensures { λ r. ⌜ ManyPlanned (namesOf (now (join .entry))) (namesOf (now (skip .entry))) (now (rec .entry)) m k n p (now (array .entry)) (now (at .entry)) (now (keys .entry)) (now (rows .entry)) (now (list .entry)) (now (list .exit)) r ⌝ }
-    ensures { λ _. ⌜ Marked (namesOf (now (join .entry))) (namesOf (now (skip .entry))) (now (rec .entry)) k (now (array .entry)) (now (at .entry)) (now (keys .entry)) (now (leads .exit)) ⌝ }
+    out: &mut [u64],
+)
+    requires lent { ⌜ JoinLent (length (now out)) (now «many_array») (now «many_at») (now «many_keys») (now «many_rows») (now array) (now at) (now keys) (now rows) ⌝ }
+    requires code { ⌜ CodeIn (now «many_keys») (now keys) x ⌝ }
+    requires before { ⌜ LeadsFor (namesOf (now join)) (namesOf (now skip)) marked (now «many_array») (now «many_at») (now «many_keys») (now array) (now at) (now keys) (now leads) ⌝ }
+    ensures { λ _. ⌜ LeadsFor (namesOf (now (join .entry))) (namesOf (now (skip .entry))) (x / 512) (now («many_array» .entry)) (now («many_at» .entry)) (now («many_keys» .entry)) (now (array .entry)) (now (at .entry)) (now (keys .entry)) (now (leads .exit)) ⌝ }
+    ensures { λ _. ⌜ CodeRow w (namesOf (now (join .entry))) (namesOf (now (skip .entry))) (length (now (out .entry))) (now («many_array» .entry)) (now («many_at» .entry)) (now («many_keys» .entry)) (now («many_rows» .entry)) (now (array .entry)) (now (at .entry)) (now (keys .entry)) (now (rows .entry)) x (now (out .exit)) ⌝ }
 {
-    join_leads::mark_leads(rec, k, array, at, keys, join, skip, leads);
-    plan_leads(m, n, p, rows, leads, list)
+    let m = x / 512;
+    let p = out.len();
+    leads_for(
+        m,
+        marked,
+        many_array,
+        many_at,
+        many_keys,
+        array,
+        at,
+        keys,
+        join,
+        skip,
+        leads,
+    );
+    join_rows::lead_row(
+        w,
+        timeseries::row(many_rows, p, m),
+        rows,
+        leads,
+        x % 512,
+        out,
+    );
 }
 
-fn plan_many<'a>(
-    rec: &'a [u8],
-    m: usize,
-    k: usize,
-    n: usize,
+// No many-side place: those are below it.
+const NO_PLACE: usize = 512;
+
+// Writes the readings of codes, each into its own part. Codes of one many-side place stand together, so its leaders are marked once.
+fn put_led_rows<'a>(
+    w: Work,
     p: usize,
+    many_array: &'a [u8],
+    many_at: &[usize],
+    many_keys: &[usize],
+    many_rows: &[u64],
     array: &'a [u8],
     at: &[usize],
     keys: &[usize],
     rows: &[u64],
     join: &[u8],
     skip: &[u8],
-    list: &mut [usize],
-) -> Plan
-    requires formed { ⌜ WellFormed (labelsOf (now rec)) ⌝ }
-    requires one { ⌜ OneLent p (now array) (now at) (now keys) (now rows) ⌝ }
-    requires fit { ⌜ CodesFit m n (now keys) ⌝ }
-    ensures { λ r. ⌜ ManyPlanned (namesOf (now (join .entry))) (namesOf (now (skip .entry))) (now (rec .entry)) m k n p (now (array .entry)) (now (at .entry)) (now (keys .entry)) (now (rows .entry)) (now (list .entry)) (now (list .exit)) r ⌝ }
+    list: &[usize],
+    leads: &mut [usize],
+    out: &mut [u64],
+)
+    requires asked { ⌜ JoinAsked (namesOf (now join)) (namesOf (now skip)) p (now «many_array») (now «many_at») (now «many_keys») (now «many_rows») (now array) (now at) (now keys) (now rows) (now list) ⌝ }
+    requires long { ⌜ length (now leads) ≡ length (now keys) ⌝ }
+    requires room { ⌜ length (now list) * p ≤ length (now out) ⌝ }
+    ensures { λ _. ⌜ RowsPut w (namesOf (now (join .entry))) (namesOf (now (skip .entry))) p (now («many_array» .entry)) (now («many_at» .entry)) (now («many_keys» .entry)) (now («many_rows» .entry)) (now (array .entry)) (now (at .entry)) (now (keys .entry)) (now (rows .entry)) (now (list .entry)) (now (out .entry)) (now (out .exit)) ⌝ }
+{
+    let mut marked = NO_PLACE;
+    let mut i: usize = 0;
+    while i < list.len() {
+        let x = list[i];
+        let from = i * p;
+        let to = from + p;
+        put_code_row(
+            w,
+            x,
+            marked,
+            many_array,
+            many_at,
+            many_keys,
+            many_rows,
+            array,
+            at,
+            keys,
+            rows,
+            join,
+            skip,
+            leads,
+            &mut out[from..to],
+        );
+        marked = x / 512;
+        i += 1;
+    }
+}
+
+// With room for the leaders.
+fn put_join_rows<'a>(
+    w: Work,
+    p: usize,
+    many_array: &'a [u8],
+    many_at: &[usize],
+    many_keys: &[usize],
+    many_rows: &[u64],
+    array: &'a [u8],
+    at: &[usize],
+    keys: &[usize],
+    rows: &[u64],
+    join: &[u8],
+    skip: &[u8],
+    list: &[usize],
+    out: &mut [u64],
+)
+    requires asked { ⌜ JoinAsked (namesOf (now join)) (namesOf (now skip)) p (now «many_array») (now «many_at») (now «many_keys») (now «many_rows») (now array) (now at) (now keys) (now rows) (now list) ⌝ }
+    requires room { ⌜ length (now list) * p ≤ length (now out) ⌝ }
+    ensures { λ _. ⌜ RowsPut w (namesOf (now (join .entry))) (namesOf (now (skip .entry))) p (now («many_array» .entry)) (now («many_at» .entry)) (now («many_keys» .entry)) (now («many_rows» .entry)) (now (array .entry)) (now (at .entry)) (now (keys .entry)) (now (rows .entry)) (now (list .entry)) (now (out .entry)) (now (out .exit)) ⌝ }
 {
     let mut leads = [0usize; 512];
     let count = keys.len();
-    plan_marked(
-        rec,
-        m,
-        k,
-        n,
+    put_led_rows(
+        w,
         p,
+        many_array,
+        many_at,
+        many_keys,
+        many_rows,
         array,
         at,
         keys,
         rows,
         join,
         skip,
-        &mut leads[..count],
         list,
-    )
+        &mut leads[..count],
+        out,
+    );
 }
 
-// Every many-side series that takes part, up to the first merge that fails.
-fn plan_join<'a>(
+// Writes the answer: the records of codes, and their readings.
+fn put_answer<'a>(
+    w: Work,
     p: usize,
     many_array: &'a [u8],
     many_at: &[usize],
     many_keys: &[usize],
+    many_rows: &[u64],
     array: &'a [u8],
     at: &[usize],
     keys: &[usize],
     rows: &[u64],
     join: &[u8],
     skip: &[u8],
-    list: &mut [usize],
-) -> Plan
-    requires many { ⌜ Lent (now «many_array») (now «many_at») (now «many_keys») ⌝ }
-    requires one { ⌜ OneLent p (now array) (now at) (now keys) (now rows) ⌝ }
-    ensures { λ r. ⌜ Planned (namesOf (now (join .entry))) (namesOf (now (skip .entry))) p (now («many_array» .entry)) (now («many_at» .entry)) (now («many_keys» .entry)) (now (array .entry)) (now (at .entry)) (now (keys .entry)) (now (rows .entry)) (now (list .entry)) (now (list .exit)) r ⌝ }
+    list: &[usize],
+    labels: &mut [u8],
+    out: &mut [u64],
+) -> Outcome
+    requires asked { ⌜ JoinAsked (namesOf (now join)) (namesOf (now skip)) p (now «many_array») (now «many_at») (now «many_keys») (now «many_rows») (now array) (now at) (now keys) (now rows) (now list) ⌝ }
+    requires room { ⌜ AnswerRoom (rowLabels (namesOf (now join)) (namesOf (now skip)) (w .naming) (now «many_array») (now «many_at») (now array) (now at)) (now list) p (length (now labels)) (length (now out)) ⌝ }
+    ensures { λ r. ⌜ AnswerPut w (namesOf (now (join .entry))) (namesOf (now (skip .entry))) p (now («many_array» .entry)) (now («many_at» .entry)) (now («many_keys» .entry)) (now («many_rows» .entry)) (now (array .entry)) (now (at .entry)) (now (keys .entry)) (now (rows .entry)) (now (list .entry)) (now (labels .entry)) (now (out .entry)) (now (labels .exit)) (now (out .exit)) r ⌝ }
 {
-    let mut n: usize = 0;
-    let mut i: usize = 0;
-    while i < many_keys.len() {
-        let m = i;
-        let k = many_keys[m];
-        i += 1;
-        if k != timeseries::DROPPED {
-            let rec = timeseries::record(many_array, many_at, m);
-            match plan_many(rec, m, k, n, p, array, at, keys, rows, join, skip, list) {
-                Plan::Rows(count) => n = count,
-                Plan::Failed { kept, failed } => return Plan::Failed { kept, failed },
-            }
-        }
+    let naming = w.naming;
+    let series = list.len();
+    let bytes = put_join_labels(
+        many_array,
+        many_at,
+        array,
+        at,
+        list,
+        join,
+        skip,
+        naming,
+        labels,
+    );
+    put_join_rows(
+        w,
+        p,
+        many_array,
+        many_at,
+        many_keys,
+        many_rows,
+        array,
+        at,
+        keys,
+        rows,
+        join,
+        skip,
+        list,
+        out,
+    );
+    Outcome::Answer {
+        series,
+        points: p,
+        bytes,
     }
-    Plan::Rows(n)
+}
+
+// The answer series of codes, if they are within the limits and the output parts.
+fn answer_join<'a>(
+    w: Work,
+    p: usize,
+    many_array: &'a [u8],
+    many_at: &[usize],
+    many_keys: &[usize],
+    many_rows: &[u64],
+    array: &'a [u8],
+    at: &[usize],
+    keys: &[usize],
+    rows: &[u64],
+    join: &[u8],
+    skip: &[u8],
+    list: &[usize],
+    labels: &mut [u8],
+    out: &mut [u64],
+) -> Outcome
+    requires asked { ⌜ JoinAsked (namesOf (now join)) (namesOf (now skip)) p (now «many_array») (now «many_at») (now «many_keys») (now «many_rows») (now array) (now at) (now keys) (now rows) (now list) ⌝ }
+    ensures { λ r. ⌜ Answered w (namesOf (now (join .entry))) (namesOf (now (skip .entry))) p (now («many_array» .entry)) (now («many_at» .entry)) (now («many_keys» .entry)) (now («many_rows» .entry)) (now (array .entry)) (now (at .entry)) (now (keys .entry)) (now (rows .entry)) (now (list .entry)) (now (labels .entry)) (now (out .entry)) (now (labels .exit)) (now (out .exit)) r ⌝ }
+{
+    let naming = w.naming;
+    let t = tally_join(many_array, many_at, array, at, list, join, skip, naming);
+    match answers::room_for(list.len(), p, t, labels.len(), out.len()) {
+        Room::TooLarge => Outcome::TooLarge,
+        Room::TooLong => Outcome::TooLong,
+        Room::Fits => put_answer(
+            w,
+            p,
+            many_array,
+            many_at,
+            many_keys,
+            many_rows,
+            array,
+            at,
+            keys,
+            rows,
+            join,
+            skip,
+            list,
+            labels,
+            out,
+        ),
+    }
+}
+
+// A merge that fails is one of the one side, which is right where the many side is left.
+fn one_twice(left: bool, kept: usize, failed: usize) -> Outcome
+    ensures { λ r. ⌜ r ≡ oneTwice left kept failed ⌝ }
+{
+    if left {
+        Outcome::RightTwice { kept, failed }
+    } else {
+        Outcome::LeftTwice { kept, failed }
+    }
+}
+
+// The answer of a join without a clash, whose n rows are at the start of the list if it holds them.
+fn answer_rows<'a>(
+    w: Work,
+    p: usize,
+    many_array: &'a [u8],
+    many_at: &[usize],
+    many_keys: &[usize],
+    many_rows: &[u64],
+    array: &'a [u8],
+    at: &[usize],
+    keys: &[usize],
+    rows: &[u64],
+    join: &[u8],
+    skip: &[u8],
+    list: &[usize],
+    n: usize,
+    labels: &mut [u8],
+    out: &mut [u64],
+) -> Outcome
+    requires planned { ⌜ RowsPlanned (namesOf (now join)) (namesOf (now skip)) p (now «many_array») (now «many_at») (now «many_keys») (now «many_rows») (now array) (now at) (now keys) (now rows) (now list) n ⌝ }
+    ensures { λ r. ⌜ Joined w (namesOf (now (join .entry))) (namesOf (now (skip .entry))) p (now («many_array» .entry)) (now («many_at» .entry)) (now («many_keys» .entry)) (now («many_rows» .entry)) (now (array .entry)) (now (at .entry)) (now (keys .entry)) (now (rows .entry)) (now (labels .entry)) (now (out .entry)) (now (labels .exit)) (now (out .exit)) r ⌝ }
+{
+    if 512 < n {
+        return Outcome::TooLarge;
+    }
+    answer_join(
+        w,
+        p,
+        many_array,
+        many_at,
+        many_keys,
+        many_rows,
+        array,
+        at,
+        keys,
+        rows,
+        join,
+        skip,
+        &list[..n],
+        labels,
+        out,
+    )
+}
+
+// Runs a join: the many side's label array, positions, key numbers and rows, then the one side's, with p readings a row.
+pub fn group_join<'a>(
+    w: Work,
+    p: usize,
+    many_array: &'a [u8],
+    many_at: &[usize],
+    many_keys: &[usize],
+    many_rows: &[u64],
+    array: &'a [u8],
+    at: &[usize],
+    keys: &[usize],
+    rows: &[u64],
+    join: &[u8],
+    skip: &[u8],
+    labels: &mut [u8],
+    out: &mut [u64],
+) -> Outcome
+    requires lent { ⌜ JoinLent p (now «many_array») (now «many_at») (now «many_keys») (now «many_rows») (now array) (now at) (now keys) (now rows) ⌝ }
+    ensures { λ r. ⌜ Joined w (namesOf (now (join .entry))) (namesOf (now (skip .entry))) p (now («many_array» .entry)) (now («many_at» .entry)) (now («many_keys» .entry)) (now («many_rows» .entry)) (now (array .entry)) (now (at .entry)) (now (keys .entry)) (now (rows .entry)) (now (labels .entry)) (now (out .entry)) (now (labels .exit)) (now (out .exit)) r ⌝ }
+{
+    let mut list = [0usize; 512];
+    match join_plan::plan_join(
+        p,
+        many_array,
+        many_at,
+        many_keys,
+        array,
+        at,
+        keys,
+        rows,
+        join,
+        skip,
+        &mut list,
+    ) {
+        Plan::Failed { kept, failed } => one_twice(w.left, kept, failed),
+        Plan::Rows(n) => answer_rows(
+            w,
+            p,
+            many_array,
+            many_at,
+            many_keys,
+            many_rows,
+            array,
+            at,
+            keys,
+            rows,
+            join,
+            skip,
+            &list,
+            n,
+            labels,
+            out,
+        ),
+    }
 }

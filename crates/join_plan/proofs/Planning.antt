@@ -31,10 +31,10 @@ use Rattle.join_leads.specs.Marks.{Marked}
 use Rattle.join_leads.specs.Checks.{ClashOf, CodesFit, Noted}
 use Rattle.join_leads.proofs.Alike.{leads-among-long}
 use Rattle.join_leads.proofs.Marking.{labels-long, labels-here, someone, marked-long}
-use Rattle.joins.specs.declared.Plan.{Plan}
-use Rattle.joins.specs.declared.Plan.the-variants.{Rows, Failed}
+use Rattle.join_plan.specs.declared.Plan.{Plan}
+use Rattle.join_plan.specs.declared.Plan.the-variants.{Rows, Failed}
 use Rattle.join_rows.specs.Sides.{OneLent, sidesOf}
-use Rattle.joins.specs.Plans.{planClash, PlanNotes, LeadsPlanned, ManyPlanned, PlannedBy, Planned}
+use Rattle.join_plan.specs.Plans.{planClash, PlanNotes, LeadsPlanned, ManyPlanned, PlannedBy, Planned}
 
 -- `plan_leads`
 

@@ -14,8 +14,8 @@ use Rattle.metric_name.specs.Lenient.{labelsOf}
 use Rattle.timeseries.specs.Sides.{labelsIn}
 use Rattle.join_leads.specs.Lent.{ListedBy}
 use Rattle.join_leads.specs.Checks.{Noted}
-use Rattle.joins.specs.declared.Plan.{Plan}
-use Rattle.joins.specs.declared.Plan.the-variants.{Rows, Failed}
+use Rattle.join_plan.specs.declared.Plan.{Plan}
+use Rattle.join_plan.specs.declared.Plan.the-variants.{Rows, Failed}
 use Rattle.join_rows.specs.Sides.{sidesOf}
 
 -- the clash that a plan tells, on the one side

@@ -3,12 +3,12 @@ use Prim.Native.Nat.{_-_}
 use lib.ListN.{length}
 use Rattle.labels.specs.Names.{namesOf}
 use Rattle.join_leads.proofs.Marking.{lent-positions}
-use Rattle.joins.proofs.Planning.{Planning, after-long, list-long, planning-starts, planning-skip, planning-rows, planning-failed, planning-ends, place-fits, record-inside, record-formed}
-use Rattle.joins.proofs.plan_join.Statement.{statement}
-use Rattle.joins.proofs.plan_join.Tie as tie
-use Rattle.joins.proofs.plan_join.Reads as reads
-use Rattle.joins.proofs.plan_join.Lts as lts
-use Rattle.joins.proofs.plan_many.Reads as plan-many-reads
+use Rattle.join_plan.proofs.Planning.{Planning, after-long, list-long, planning-starts, planning-skip, planning-rows, planning-failed, planning-ends, place-fits, record-inside, record-formed}
+use Rattle.join_plan.proofs.plan_join.Statement.{statement}
+use Rattle.join_plan.proofs.plan_join.Tie as tie
+use Rattle.join_plan.proofs.plan_join.Reads as reads
+use Rattle.join_plan.proofs.plan_join.Lts as lts
+use Rattle.join_plan.proofs.plan_many.Reads as plan-many-reads
 use Rattle.timeseries.proofs.record.Reads as record-reads
 
 abbrev Inv-loop : tie.InvT-loop

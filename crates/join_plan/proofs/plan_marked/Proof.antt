@@ -1,11 +1,11 @@
 use borrow.Author.Needs.{needs}
-use Rattle.joins.proofs.Planning.{one-lent, leads-fit, leads-held, leads-narrow, many-planned}
-use Rattle.joins.proofs.plan_marked.Statement.{statement}
-use Rattle.joins.proofs.plan_marked.Tie as tie
-use Rattle.joins.proofs.plan_marked.Reads as reads
-use Rattle.joins.proofs.plan_marked.Lts as lts
+use Rattle.join_plan.proofs.Planning.{one-lent, leads-fit, leads-held, leads-narrow, many-planned}
+use Rattle.join_plan.proofs.plan_marked.Statement.{statement}
+use Rattle.join_plan.proofs.plan_marked.Tie as tie
+use Rattle.join_plan.proofs.plan_marked.Reads as reads
+use Rattle.join_plan.proofs.plan_marked.Lts as lts
 use Rattle.join_leads.proofs.mark_leads.Reads as mark-leads-reads
-use Rattle.joins.proofs.plan_leads.Reads as plan-leads-reads
+use Rattle.join_plan.proofs.plan_leads.Reads as plan-leads-reads
 
 -- src/lib.rt:67:5
 mark-leads-requires : tie.Need-mark-leads-requires

@@ -1,9 +1,9 @@
 use borrow.Author.Needs.{needs}
-use Rattle.joins.proofs.Planning.{leads-planned, leads-failed}
-use Rattle.joins.proofs.plan_leads.Statement.{statement}
-use Rattle.joins.proofs.plan_leads.Tie as tie
-use Rattle.joins.proofs.plan_leads.Reads as reads
-use Rattle.joins.proofs.plan_leads.Lts as lts
+use Rattle.join_plan.proofs.Planning.{leads-planned, leads-failed}
+use Rattle.join_plan.proofs.plan_leads.Statement.{statement}
+use Rattle.join_plan.proofs.plan_leads.Tie as tie
+use Rattle.join_plan.proofs.plan_leads.Reads as reads
+use Rattle.join_plan.proofs.plan_leads.Lts as lts
 use Rattle.join_leads.proofs.check_leads.Reads as check-leads-reads
 use Rattle.join_leads.proofs.list_leads.Reads as list-leads-reads
 

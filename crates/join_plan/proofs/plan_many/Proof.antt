@@ -1,11 +1,11 @@
 use borrow.Author.Needs.{needs}
 use mathlib.Core.Path.{sym}
-use Rattle.joins.proofs.Planning.{front-long}
-use Rattle.joins.proofs.plan_many.Statement.{statement}
-use Rattle.joins.proofs.plan_many.Tie as tie
-use Rattle.joins.proofs.plan_many.Reads as reads
-use Rattle.joins.proofs.plan_many.Lts as lts
-use Rattle.joins.proofs.plan_marked.Reads as plan-marked-reads
+use Rattle.join_plan.proofs.Planning.{front-long}
+use Rattle.join_plan.proofs.plan_many.Statement.{statement}
+use Rattle.join_plan.proofs.plan_many.Tie as tie
+use Rattle.join_plan.proofs.plan_many.Reads as reads
+use Rattle.join_plan.proofs.plan_many.Lts as lts
+use Rattle.join_plan.proofs.plan_marked.Reads as plan-marked-reads
 
 -- src/lib.rt:92:69
 array-borrow-prefix-leads : tie.Need-array-borrow-prefix-leads
