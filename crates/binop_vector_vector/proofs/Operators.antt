@@ -20,7 +20,11 @@ use Rattle.answers.specs.declared.Outcome.{Outcome}
 use Rattle.set_rules.specs.Rules.{bareSide}
 use Rattle.set_rules.specs.Sides.{lentSides}
 use Rattle.set_operators.specs.Answers.{SetAnswered}
-use Rattle.binop_vector_vector.specs.Stages.{OperatorRan}
+use Rattle.query.specs.declared.Query.{Query}
+use Rattle.query.specs.Queries.{queryOf}
+use Rattle.answers.specs.Outcomes.{Ran}
+use Rattle.binop_vector_vector.specs.Keyed.{dropsMissing, Keyed}
+use Rattle.binop_vector_vector.specs.Stages.{ranOver, OperatorRan}
 use Rattle.binop_vector_vector.proofs.Verdicts.{ran-set, ran-fallback}
 
 -- the one set operator that the other arms leave
@@ -81,3 +85,18 @@ module _ (op : Operator) (p : ℕ) (array at keys rows array′ at′ keys′ ro
 
   pub default-ran : isLogicalOp op ≡ true → OneOf (0 ∷ 2 ∷ 3 ∷ 4 ∷ 5 ∷ 6 ∷ 7 ∷ 8 ∷ 9 ∷ 10 ∷ 11 ∷ 14 ∷ 15 ∷ 16 ∷ []) (tagOf the-type op) → SetAnswered (lentSides filled (bareSide (labelsIn array′ at′)) (eqb (length keys) 0) p array at keys rows array′ at′ keys′ rows′) labels₀ out₀ labels out r → OperatorRan op p array at keys rows array′ at′ keys′ rows′ labels₀ out₀ labels out r
   default-ran l h w = fallback-ran filled (last-is op l h) w
+
+-- `run_keyed`
+
+module _ (o : Operator) (t : Bool) (ht : t ≡ isLogicalOp o) where
+  pub is-logical : t ≡ true → isLogicalOp o ≡ true
+  is-logical h = sym ht ∙ h
+
+  pub not-logical : t ≡ false → isLogicalOp o ≡ false
+  not-logical h = sym ht ∙ h
+
+pub logical-ran : (s : List ℕ) (q : Query) (p : ℕ) (array at keys rows array′ at′ keys′ rows′ labels₀ out₀ labels out : List ℕ) (r : Outcome)
+    → Keyed (queryOf s q) (dropsMissing (kindOf (q .operator))) p array at keys rows array′ at′ keys′ rows′
+    → OperatorRan (q .operator) p array at keys rows array′ at′ keys′ rows′ labels₀ out₀ labels out r
+    → Ran (ranOver (queryOf s q) p array at rows array′ at′ rows′ (length labels₀) (length out₀)) labels₀ out₀ labels out r
+logical-ran s q p array at keys rows array′ at′ keys′ rows′ labels₀ out₀ labels out r k o = o .each (queryOf s q) refl k

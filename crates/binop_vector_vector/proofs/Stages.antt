@@ -99,11 +99,11 @@ module _ (side : ℕ) (s x before after : List ℕ) (t : Taken) (into : TakenInt
     pub ran-taken : (f : Vector → Call.Outcome) (labels₀ out₀ d o : List ℕ) (y : Outcome) → Ran (f (lentVector p (take (length s - 6) (drop 6 s)) (take (n + 1) after) x)) labels₀ out₀ d o y → Ran (onVector (takeVector side s x) f) labels₀ out₀ d o y
     ran-taken f labels₀ out₀ d o y k = rw (lent-vector side s x after n p side-is, ← behind-sizes s) k
 
+pub lent-again : (p points : ℕ) (array at rows : List ℕ) → points ≡ p → LentSide points array at rows → LentSide p array at rows
+lent-again p points array at rows e h = rw e at h
+
 -- 01: 6, the sides' p differ
 module _ (q : Model.Query) (p : ℕ) (array at rows : List ℕ) (points : ℕ) (array′ at′ rows′ labels₀ out₀ : List ℕ) where
-  pub right-lent : points ≡ p → LentSide points array′ at′ rows′ → LentSide p array′ at′ rows′
-  right-lent e h = rw e at h
-
   pub ran-unequal : (points ≡ p → ⊥) → Ran (running (length labels₀) (length out₀) q (lentVector p array at rows) (lentVector points array′ at′ rows′)) labels₀ out₀ labels₀ out₀ Out.Unequal
   unfolding running
   ran-unequal h = rw (ne-eqb p points (λ e. h (sym e))) (record { outcome = refl; labelPart = refl; readingPart = refl })

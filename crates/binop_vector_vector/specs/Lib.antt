@@ -3,3 +3,4 @@ pub mod KeyNumbers
 pub mod Keyed
 pub mod Stages
 pub mod Families
+pub mod Grouped

@@ -1,7 +1,9 @@
 // A query run over two vectors: both are taken, their keys numbered, and the operator's rule run.
 use answers::Outcome;
+use join_rows::Work;
 use labels::Matching;
 use operator::Operator;
+use query::Join;
 use query::Query;
 use query::Request;
 use timeseries::Taken;
@@ -13,11 +15,14 @@ ghost use Rattle.operator.specs.Kinds.{kindOf};
 ghost use Rattle.operator.specs.Operators.{isLogicalOp, isCarried};
 ghost use Rattle.labels.specs.Names.{namesOf};
 ghost use Rattle.labels.specs.Matchings.{matchingOf};
-ghost use Rattle.model.specs.Query.{oneToOne};
-ghost use Rattle.query.specs.Queries.{queryOf, joinOf};
+ghost use Rattle.query.specs.Queries.{queryOf};
+ghost use Rattle.query.specs.declared.Join.the-variants as Join;
 ghost use Rattle.semantics.specs.Call.{call, running};
 ghost use Rattle.answers.specs.Outcomes.{Ran};
 ghost use Rattle.timeseries.specs.Sides.{Positions};
+ghost use Rattle.semantics.specs.Binop.{skipList};
+ghost use Rattle.join_rows.specs.Sides.{JoinLent};
+ghost use Rattle.binop_vector_vector.specs.Grouped.{workOf, joinedOver};
 ghost use Rattle.binop_vector_vector.specs.Lent.{LentSide, lentVector};
 ghost use Rattle.binop_vector_vector.specs.Keyed.{dropsMissing, keptKeys, SidesNumbered, KeyedSide, Keyed, NumbersKept};
 ghost use Rattle.binop_vector_vector.specs.Stages.{Asked, leftStage, rightStage, ranOver, OperatorRan};
@@ -279,7 +284,7 @@ fn run_one_to_one(
 ) -> Outcome
     requires { ⌜ Asked (now query) q ⌝ }
     requires { ⌜ isLogicalOp (q .operator) ≡ false ⌝ }
-    requires { ⌜ joinOf (q .join) ≡ oneToOne ⌝ }
+    requires { ⌜ q .join ≡ Join.OneToOne ⌝ }
     requires { ⌜ Keyed (queryOf (now query) q) (dropsMissing (kindOf (q .operator))) p (now «left_labels») (now «left_at») (now «left_keys») (now left) (now «right_labels») (now «right_at») (now «right_keys») (now right) ⌝ }
     ensures { λ r. ⌜ Ran (ranOver (queryOf (now (query .entry)) q) p (now («left_labels» .entry)) (now («left_at» .entry)) (now (left .entry)) (now («right_labels» .entry)) (now («right_at» .entry)) (now (right .entry)) (length (now (labels .entry))) (length (now (out .entry)))) (now (labels .entry)) (now (out .entry)) (now (labels .exit)) (now (out .exit)) r ⌝ }
 {
@@ -299,16 +304,157 @@ fn run_one_to_one(
     )
 }
 
-// The keys are numbered.
-fn run_keyed(
+// The labels that a join leaves alone: the `on` list.
+fn skip_list<'a>(matching: Matching, names: &'a [u8]) -> &'a [u8]
+    ensures { λ r. ⌜ namesOf (now r) ≡ skipList (matchingOf matching) (namesOf (now (names .entry))) ⌝ }
+{
+    match matching {
+        Matching::On => names,
+        Matching::All => &names[..0],
+        Matching::Ignoring => &names[..0],
+    }
+}
+
+// What a join does with each pair of series.
+fn work_of(q: Query, left: bool, join: &[u8], skip: &[u8]) -> Work
+    ensures { λ r. ⌜ r ≡ workOf (namesOf (now (join .entry))) (namesOf (now (skip .entry))) left q ⌝ }
+{
+    let operator = q.operator;
+    let reset = query::resets_name(q);
+    Work {
+        operator,
+        bool: q.bool,
+        left,
+        naming: set_tags::naming_of(join, skip, reset),
+    }
+}
+
+// A join, with its lists: the many side, then the one side.
+fn run_group<'a>(
+    query: &[u8],
+    q: Query,
+    left: bool,
+    p: usize,
+    many_labels: &'a [u8],
+    many_at: &[usize],
+    many_keys: &[usize],
+    many: &[u64],
+    one_labels: &'a [u8],
+    one_at: &[usize],
+    one_keys: &[usize],
+    one: &[u64],
+    labels: &mut [u8],
+    out: &mut [u64],
+) -> Outcome
+    requires { ⌜ Asked (now query) q ⌝ }
+    requires { ⌜ JoinLent p (now «many_labels») (now «many_at») (now «many_keys») (now many) (now «one_labels») (now «one_at») (now «one_keys») (now one) ⌝ }
+    ensures { λ r. ⌜ Ran (joinedOver (queryOf (now (query .entry)) q) left p (now («many_labels» .entry)) (now («many_at» .entry)) (now («many_keys» .entry)) (now (many .entry)) (now («one_labels» .entry)) (now («one_at» .entry)) (now («one_keys» .entry)) (now (one .entry)) (length (now (labels .entry))) (length (now (out .entry)))) (now (labels .entry)) (now (out .entry)) (now (labels .exit)) (now (out .exit)) r ⌝ }
+{
+    let to = q.join_at;
+    let matching = q.matching;
+    let skip = skip_list(matching, &query[4..to]);
+    let join = &query[to..];
+    joins::group_join(
+        work_of(q, left, join, skip),
+        p,
+        many_labels,
+        many_at,
+        many_keys,
+        many,
+        one_labels,
+        one_at,
+        one_keys,
+        one,
+        join,
+        skip,
+        labels,
+        out,
+    )
+}
+
+// Arithmetic and comparisons: by the join.
+fn run_matched<'a>(
     query: &[u8],
     q: Query,
     p: usize,
-    left_labels: &[u8],
+    left_labels: &'a [u8],
     left_at: &[usize],
     left_keys: &[usize],
     left: &[u64],
-    right_labels: &[u8],
+    right_labels: &'a [u8],
+    right_at: &[usize],
+    right_keys: &[usize],
+    right: &[u64],
+    labels: &mut [u8],
+    out: &mut [u64],
+) -> Outcome
+    requires { ⌜ Asked (now query) q ⌝ }
+    requires { ⌜ isLogicalOp (q .operator) ≡ false ⌝ }
+    requires { ⌜ Keyed (queryOf (now query) q) (dropsMissing (kindOf (q .operator))) p (now «left_labels») (now «left_at») (now «left_keys») (now left) (now «right_labels») (now «right_at») (now «right_keys») (now right) ⌝ }
+    ensures { λ r. ⌜ Ran (ranOver (queryOf (now (query .entry)) q) p (now («left_labels» .entry)) (now («left_at» .entry)) (now (left .entry)) (now («right_labels» .entry)) (now («right_at» .entry)) (now (right .entry)) (length (now (labels .entry))) (length (now (out .entry)))) (now (labels .entry)) (now (out .entry)) (now (labels .exit)) (now (out .exit)) r ⌝ }
+{
+    let join = q.join;
+    match join {
+        Join::OneToOne => run_one_to_one(
+            query,
+            q,
+            p,
+            left_labels,
+            left_at,
+            left_keys,
+            left,
+            right_labels,
+            right_at,
+            right_keys,
+            right,
+            labels,
+            out,
+        ),
+        Join::GroupLeft => run_group(
+            query,
+            q,
+            true,
+            p,
+            left_labels,
+            left_at,
+            left_keys,
+            left,
+            right_labels,
+            right_at,
+            right_keys,
+            right,
+            labels,
+            out,
+        ),
+        Join::GroupRight => run_group(
+            query,
+            q,
+            false,
+            p,
+            right_labels,
+            right_at,
+            right_keys,
+            right,
+            left_labels,
+            left_at,
+            left_keys,
+            left,
+            labels,
+            out,
+        ),
+    }
+}
+
+// The keys are numbered.
+fn run_keyed<'a>(
+    query: &[u8],
+    q: Query,
+    p: usize,
+    left_labels: &'a [u8],
+    left_at: &[usize],
+    left_keys: &[usize],
+    left: &[u64],
+    right_labels: &'a [u8],
     right_at: &[usize],
     right_keys: &[usize],
     right: &[u64],
@@ -336,7 +482,7 @@ fn run_keyed(
             out,
         );
     }
-    run_one_to_one(
+    run_matched(
         query,
         q,
         p,
@@ -354,15 +500,15 @@ fn run_keyed(
 }
 
 // Both sides are taken and have the same points; with room for their keys.
-fn run_numbered(
+fn run_numbered<'a>(
     query: &[u8],
     q: Query,
     p: usize,
-    left_labels: &[u8],
+    left_labels: &'a [u8],
     left_at: &[usize],
     left_keys: &mut [usize],
     left: &[u64],
-    right_labels: &[u8],
+    right_labels: &'a [u8],
     right_at: &[usize],
     right_keys: &mut [usize],
     right: &[u64],
@@ -411,14 +557,14 @@ fn run_numbered(
 }
 
 // Both sides are taken and have the same points.
-fn run(
+fn run<'a>(
     query: &[u8],
     q: Query,
     p: usize,
-    left_labels: &[u8],
+    left_labels: &'a [u8],
     left_at: &[usize],
     left: &[u64],
-    right_labels: &[u8],
+    right_labels: &'a [u8],
     right_at: &[usize],
     right: &[u64],
     labels: &mut [u8],
@@ -451,15 +597,15 @@ fn run(
 }
 
 // Both sides are taken.
-fn run_sides(
+fn run_sides<'a>(
     query: &[u8],
     q: Query,
     p: usize,
-    left_labels: &[u8],
+    left_labels: &'a [u8],
     left_at: &[usize],
     left: &[u64],
     points: usize,
-    right_labels: &[u8],
+    right_labels: &'a [u8],
     right_at: &[usize],
     right: &[u64],
     labels: &mut [u8],
@@ -489,14 +635,14 @@ fn run_sides(
 }
 
 // The left side is taken: takes the right one.
-fn exec_right(
+fn exec_right<'a>(
     query: &[u8],
     q: Query,
     p: usize,
-    left_labels: &[u8],
+    left_labels: &'a [u8],
     left_at: &[usize],
     left: &[u64],
-    right_labels: &[u8],
+    right_labels: &'a [u8],
     right: &[u64],
     labels: &mut [u8],
     out: &mut [u64],
@@ -531,12 +677,12 @@ fn exec_right(
 }
 
 // The query is taken: takes the left side.
-fn exec_left(
+fn exec_left<'a>(
     query: &[u8],
     q: Query,
-    left_labels: &[u8],
+    left_labels: &'a [u8],
     left: &[u64],
-    right_labels: &[u8],
+    right_labels: &'a [u8],
     right: &[u64],
     labels: &mut [u8],
     out: &mut [u64],
@@ -568,11 +714,11 @@ fn exec_left(
 }
 
 // Runs a query over two vectors. A label part begins with the six size bytes; the output's label part gets the records alone.
-pub fn exec_binop(
+pub fn exec_binop<'a>(
     query: &[u8],
-    left_labels: &[u8],
+    left_labels: &'a [u8],
     left: &[u64],
-    right_labels: &[u8],
+    right_labels: &'a [u8],
     right: &[u64],
     labels: &mut [u8],
     out: &mut [u64],

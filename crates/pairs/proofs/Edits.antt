@@ -28,7 +28,7 @@ use Rattle.pairs.specs.Edits.{queryBy, leavesName, keepsName, InOrder}
 
 -- `should_reset_metric_group`
 
-by-kind : (kind : Kind) (k b : Bool) → resetsOfKind kind k b ≡ cond (compares kind && not b) false (cond k false (not (joinsSets kind)))
+pub by-kind : (kind : Kind) (k b : Bool) → resetsOfKind kind k b ≡ cond (compares kind && not b) false (cond k false (not (joinsSets kind)))
 by-kind (arithmetic a) true b = refl
 by-kind (arithmetic a) false b = refl
 by-kind (comparison c) true true = refl

@@ -1,5 +1,5 @@
 use borrow.Author.Needs.{needs}
-use Rattle.binop_vector_vector.proofs.Stages.{right-lent, ran-unequal, ran-equal}
+use Rattle.binop_vector_vector.proofs.Stages.{lent-again, ran-unequal, ran-equal}
 use Rattle.binop_vector_vector.proofs.run_sides.Statement.{statement}
 use Rattle.binop_vector_vector.proofs.run_sides.Tie as tie
 use Rattle.binop_vector_vector.proofs.run_sides.Reads as reads
@@ -12,7 +12,7 @@ returns c = search ran-unequal
 
 -- src/lib.rt:267:5
 run-requires : tie.Need-run-requires
-run-requires c κs = let start = c .before .before .before .before .before .before .before .before .before .before .before .before in (search needs, (search needs, right-lent _ _ _ _ _ _ _ _ _ _ _ (c .before .before .if1 .left) (start .pre .1 .1)))
+run-requires c κs = let start = c .before .before .before .before .before .before .before .before .before .before .before .before in (search needs, (search needs, lent-again _ _ _ _ _ (c .before .before .if1 .left) (start .pre .1 .1)))
 
 -- src/lib.rt:245:1
 same-length : tie.Need-same-length
