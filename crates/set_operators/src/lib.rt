@@ -152,9 +152,9 @@ pub fn binary_op_and(
     ensures { λ r. ⌜ SetAnswered (lentSides whereFound false false p (now (llabels .entry)) (now (lat .entry)) (now (lkeys .entry)) (now (left .entry)) (now (rlabels .entry)) (now (rat .entry)) (now (rkeys .entry)) (now (right .entry))) (now (labels .entry)) (now (out .entry)) (now (labels .exit)) (now (out .exit)) r ⌝ }
 {
     run_set(
-        SetRule::WhereFound,
-        false,
-        false,
+        SetRule::WhereFound, // `and` keeps where one is found
+        false, // `and` does not fall back
+        false, // `and` adds no right series
         p,
         llabels,
         lat,
@@ -189,9 +189,9 @@ pub fn binary_op_or(
     ensures { λ r. ⌜ SetAnswered (lentSides filled false true p (now (llabels .entry)) (now (lat .entry)) (now (lkeys .entry)) (now (left .entry)) (now (rlabels .entry)) (now (rat .entry)) (now (rkeys .entry)) (now (right .entry))) (now (labels .entry)) (now (out .entry)) (now (labels .exit)) (now (out .exit)) r ⌝ }
 {
     run_set(
-        SetRule::Filled,
-        false,
-        true,
+        SetRule::Filled, // `or` fills gaps
+        false, // `or` does not fall back
+        true, // `or` adds right series
         p,
         llabels,
         lat,
@@ -226,9 +226,9 @@ pub fn binary_op_unless(
     ensures { λ r. ⌜ SetAnswered (lentSides whereNone false false p (now (llabels .entry)) (now (lat .entry)) (now (lkeys .entry)) (now (left .entry)) (now (rlabels .entry)) (now (rat .entry)) (now (rkeys .entry)) (now (right .entry))) (now (labels .entry)) (now (out .entry)) (now (labels .exit)) (now (out .exit)) r ⌝ }
 {
     run_set(
-        SetRule::WhereNone,
-        false,
-        false,
+        SetRule::WhereNone, // `unless` keeps where none is found
+        false, // `unless` does not fall back
+        false, // `unless` adds no right series
         p,
         llabels,
         lat,
@@ -264,9 +264,9 @@ pub fn binary_op_if(
 {
     let falls = set_rules::is_scalar(rlabels, rat);
     run_set(
-        SetRule::WhereFound,
-        falls,
-        false,
+        SetRule::WhereFound, // `if` keeps where one is found
+        falls, // `if` falls back
+        false, // `if` adds no right series
         p,
         llabels,
         lat,
@@ -302,9 +302,9 @@ pub fn binary_op_if_not(
 {
     let falls = set_rules::is_scalar(rlabels, rat);
     run_set(
-        SetRule::WhereNone,
-        falls,
-        false,
+        SetRule::WhereNone, // `ifnot` keeps where none is found
+        falls, // `ifnot` falls back
+        false, // `ifnot` adds no right series
         p,
         llabels,
         lat,
@@ -341,9 +341,9 @@ pub fn binary_op_default(
     let falls = set_rules::is_scalar(rlabels, rat);
     let adds = lkeys.len() == 0;
     run_set(
-        SetRule::Filled,
-        falls,
-        adds,
+        SetRule::Filled, // `default` fills gaps
+        falls, // `default` falls back
+        adds, // `default` adds them to no left series
         p,
         llabels,
         lat,
