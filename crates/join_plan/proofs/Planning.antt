@@ -34,7 +34,7 @@ use Rattle.join_leads.proofs.Marking.{labels-long, labels-here, someone, marked
 use Rattle.join_plan.specs.declared.Plan.{Plan}
 use Rattle.join_plan.specs.declared.Plan.the-variants.{Rows, Failed}
 use Rattle.join_rows.specs.Sides.{OneLent, sidesOf}
-use Rattle.join_plan.specs.Plans.{planClash, PlanNotes, LeadsPlanned, ManyPlanned, PlannedBy, Planned}
+use Rattle.join_plan.specs.Plans.{planClash, NotedFirst, PlanNotes, LeadsPlanned, ManyPlanned, PlannedBy, Planned}
 
 -- `plan_leads`
 
@@ -42,11 +42,22 @@ module _ (m n p : ℕ) (rows leads before : List ℕ) (x : Checked) (h : ClashOf
   pub leads-planned : x ≡ C.Done → (after : List ℕ) (c : ℕ) → Noted (leadRows m 0 leads) before n after c → LeadsPlanned m n p rows leads before after (Rows c)
   leads-planned e after c k = record {
     clash = λ side. h .each side ∙ rw e;
-    notes = record { noted = λ d f. (let z : c ≡ d = cc in rw (← z) k); long = ap length (k .stored) ∙ length-sets before n (leadRows m 0 leads) };
+    notes = record {
+      noted = λ d f. (let z : c ≡ d = cc in rw (← z) k);
+      stopped = λ d i f. absurd (let z : _≡_ {A = ℕ} 0 1 = cc in omega arith);
+      long = ap length (k .stored) ∙ length-sets before n (leadRows m 0 leads);
+    };
   }
 
   pub leads-failed : (k i : ℕ) → x ≡ C.Failed k i → LeadsPlanned m n p rows leads before before (Failed k i)
-  leads-failed k i e = record { clash = λ side. h .each side ∙ rw e; notes = record { noted = λ d f. absurd (let z : _≡_ {A = ℕ} 0 1 = cc in omega arith); long = refl } }
+  leads-failed k i e = record {
+    clash = λ side. h .each side ∙ rw e;
+    notes = record {
+      noted = λ d f. absurd (let z : _≡_ {A = ℕ} 0 1 = cc in omega arith);
+      stopped = λ d j f. record { first = []; rest = leadRows m 0 leads; parted = refl; stored = refl };
+      long = refl;
+    };
+  }
 
 -- `plan_marked` and `plan_many`
 
@@ -154,6 +165,20 @@ module _ (q : Query) (many : Side) (s : JoinSides) (ks : List ℕ) (ls : List La
           count = w .count ∙ rw (t .count) (sym (length-append (t .sofar) (leadRows i 0 leads)));
         }
 
+        -- the rows noted before a clash are the first of all
+        rest-stopped : (after : List ℕ) → NotedFirst (leadRows i 0 leads) list n after → NotedFirst (joinRowsFrom q s 0 ks ls) before 0 after
+        rest-stopped after w =
+            let later : List ℕ = joinRowsFrom q s (i + 1) (drop (i + 1) ks) (drop (i + 1) ls) in
+            let z : 0 + length (t .sofar) ≡ length (t .sofar) = omega arith in
+            record {
+              first = t .sofar ++ w .first;
+              rest = w .rest ++ later;
+              parted = append-assoc (t .sofar) (w .first) (w .rest ++ later)
+                  ∙ ap (λ (x : List ℕ). t .sofar ++ x) (sym (append-assoc (w .first) (w .rest) later) ∙ ap (λ (x : List ℕ). x ++ later) (w .parted) ∙ sym (rows-step ∙ rw (ne-eqb k dropped f)))
+                  ∙ t .rows;
+              stored = w .stored ∙ rw (t .stored, t .count, ← z) (sym (sets-append before 0 (t .sofar) (w .first)));
+            }
+
         rest-failed : (d : Duplicate) → leadsClash twoOverlaps (s .points) (s .oneRows) (other many) leads 0 leads ≡ some d → joinClash q many s ks ls ≡ some d
         rest-failed d e = t .clash ∙ clash-step ∙ rw (ne-eqb k dropped f, e)
 
@@ -233,7 +258,11 @@ module _ (join skip : Names) (p : ℕ) (ma mt mk a t k r before : List ℕ) wher
                 record {
                   clash = rest-failed q many (sidesOf p ma mt mk mr a t k r) mk (labelsIn ma mt) before list n i (w .each q g many mr) h inside key (labelsOf x) hk here f
                       (record { kept = record { side = other many; number = kept }; failed = record { side = other many; number = failed } }) (l .clash (other many) ∙ rw e);
-                  notes = record { noted = λ d z. absurd (let y : _≡_ {A = ℕ} 0 1 = cc in omega arith); long = after-long };
+                  notes = record {
+                    noted = λ d z. absurd (let y : _≡_ {A = ℕ} 0 1 = cc in omega arith);
+                    stopped = λ _ _ _. rest-stopped q many (sidesOf p ma mt mk mr a t k r) mk (labelsIn ma mt) before list n i (w .each q g many mr) h inside key (labelsOf x) hk here f after (l .notes .stopped kept failed e);
+                    long = after-long;
+                  };
                 };
           }
 
@@ -246,6 +275,10 @@ module _ (join skip : Names) (p : ℕ) (ma mt mk a t k r before : List ℕ) wher
           let s = sidesOf p ma mt mk mr a t k r in
           record {
             clash = end-clash q many s mk (labelsIn ma mt) before list n i (w .each q g many mr) h;
-            notes = record { noted = λ c e. (let z : n ≡ c = cc in rw (← z) (rest-noted q many s mk (labelsIn ma mt) before list n i (w .each q g many mr) h)); long = w .long };
+            notes = record {
+              noted = λ c e. (let z : n ≡ c = cc in rw (← z) (rest-noted q many s mk (labelsIn ma mt) before list n i (w .each q g many mr) h));
+              stopped = λ d j e. absurd (let z : _≡_ {A = ℕ} 0 1 = cc in omega arith);
+              long = w .long;
+            };
           };
     }

@@ -2,8 +2,9 @@
 use Prim.Native.Nat.{ℕ, _≤_}
 use mathlib.Core.Path.{_≡_}
 use mathlib.Core.Option.{Option, none, some}
-use mathlib.Core.List.{List}
+use mathlib.Core.List.{List, _++_}
 use lib.ListN.{length}
+use lib.Seq.{sets}
 use Rattle.model.specs.Edits.{Names}
 use Rattle.model.specs.Query.{Query, Side}
 use Rattle.model.specs.Row.{twoOverlaps}
@@ -23,9 +24,17 @@ abbrev pub planClash : Side → Plan → Option Duplicate
 planClash side (Rows n) = none
 planClash side (Failed k i) = some (record { kept = record { side = side; number = k }; failed = record { side = side; number = i } })
 
--- the rows of a plan without a clash are noted behind the n before
+-- the first of rows stored in a list behind the n before
+pub record NotedFirst (rows before : List ℕ) (n : ℕ) (after : List ℕ) : Type 0 where
+  pub first : List ℕ
+  pub rest : List ℕ
+  pub parted : first ++ rest ≡ rows
+  pub stored : after ≡ sets before n first
+
+-- the rows of a plan without a clash are noted behind the n before; one with a clash may have noted the first of them
 pub record PlanNotes (rows before : List ℕ) (n : ℕ) (after : List ℕ) (r : Plan) : Type 0 where
   pub noted : (c : ℕ) → r ≡ Rows c → Noted rows before n after c
+  pub stopped : (k i : ℕ) → r ≡ Failed k i → NotedFirst rows before n after
   pub long : length after ≡ length before
 
 -- by leaders that are marked

@@ -22,7 +22,7 @@ use Rattle.join_rows.specs.Codes.{sideOf, rowLabels}
 abbrev pub worked : Work → List ℕ → List ℕ → List ℕ
 worked w many one = joinRows (sideOf (w .left)) (scalarOp (w .operator) (w .bool)) many one
 
--- where the merges behind the leader o succeed, out is the operator's row
+-- where the merges behind the leader o succeed, out is the operator's row; else only its width is told, which a slice keeps
 pub record LeadRow (w : Work) (many rows leads : List ℕ) (o p : ℕ) (out : List ℕ) : Type 0 where
   pub made : (d : List ℕ) → mergeLead twoOverlaps p rows leads o ≡ row d → out ≡ worked w many d
 

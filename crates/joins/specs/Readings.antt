@@ -1,5 +1,5 @@
 -- The readings of row codes: by the leaders of their many-side place, and what writing them leaves. Assumes nothing.
-use Prim.Native.Nat.{ℕ, _/_, _%_, _≤_, _<_}
+use Prim.Native.Nat.{ℕ, zero, suc, _/_, _%_, _≤_, _<_}
 use mathlib.Core.Path.{_≡_}
 use mathlib.Core.List.{List}
 use lib.ListN.{length, getD}
@@ -37,6 +37,11 @@ codeReadings w q p manyArray manyAt manyKeys manyRows array at keys rows x =
 pub record LeadsFor (join skip : Names) (m : ℕ) (manyArray manyAt manyKeys array at keys leads : List ℕ) : Type 0 where
   pub long : length leads ≡ length keys
   pub marked : m < length manyKeys → Marked join skip (recordAt manyArray manyAt m) (getD manyKeys m 0) array at keys leads
+
+-- the many-side place of the last of n codes; 512 is none
+unfoldable pub lastPlace : ℕ → List ℕ → ℕ
+lastPlace zero list = 512
+lastPlace (suc n) list = getD list n 0 / 512
 
 -- out is the row of the code x, where the merges behind its leader succeed
 pub record CodeRow (w : Work) (join skip : Names) (p : ℕ) (manyArray manyAt manyKeys manyRows array at keys rows : List ℕ) (x : ℕ) (out : List ℕ) : Type 0 where

@@ -18,7 +18,7 @@ ghost use Rattle.join_leads.specs.Lent.{Lent};
 ghost use Rattle.join_rows.specs.Sides.{JoinLent};
 ghost use Rattle.join_rows.specs.Codes.{CodeIn, rowLabels};
 ghost use Rattle.joins.specs.Records.{CodeRecords, RecordsIn, SizedEdited, LabelRoom, LabelsPut};
-ghost use Rattle.joins.specs.Readings.{LeadsFor, CodeRow, JoinAsked, RowsPut};
+ghost use Rattle.joins.specs.Readings.{lastPlace, LeadsFor, CodeRow, JoinAsked, RowsPut};
 ghost use Rattle.joins.specs.Joined.{AnswerRoom, AnswerPut, Answered, RowsPlanned, oneTwice, Joined};
 
 // The size of a code's edited record.
@@ -227,6 +227,7 @@ fn put_led_rows<'a>(
     requires long { ⌜ length (now leads) ≡ length (now keys) ⌝ }
     requires room { ⌜ length (now list) * p ≤ length (now out) ⌝ }
     ensures { λ _. ⌜ RowsPut w (namesOf (now (join .entry))) (namesOf (now (skip .entry))) p (now («many_array» .entry)) (now («many_at» .entry)) (now («many_keys» .entry)) (now («many_rows» .entry)) (now (array .entry)) (now (at .entry)) (now (keys .entry)) (now (rows .entry)) (now (list .entry)) (now (out .entry)) (now (out .exit)) ⌝ }
+    ensures { λ _. ⌜ LeadsFor (namesOf (now (join .entry))) (namesOf (now (skip .entry))) (lastPlace (length (now (list .entry))) (now (list .entry))) (now («many_array» .entry)) (now («many_at» .entry)) (now («many_keys» .entry)) (now (array .entry)) (now (at .entry)) (now (keys .entry)) (now (leads .exit)) ⌝ }
 {
     let mut marked = NO_PLACE;
     let mut i: usize = 0;

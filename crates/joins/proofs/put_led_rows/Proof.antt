@@ -3,7 +3,7 @@ use borrow.Author.Needs.{needs}
 use Prim.Native.Nat.{_-_}
 use lib.ListN.{length}
 use Rattle.labels.specs.Names.{namesOf}
-use Rattle.joins.proofs.Rows.{RowsDone, rows-begin, rows-long, rows-put, from-fits, to-fits, bytes-fit, part-within, part-lent, code-in, leads-known, rows-next, leads-long}
+use Rattle.joins.proofs.Rows.{RowsDone, rows-begin, rows-long, rows-put, leads-left, from-fits, to-fits, bytes-fit, part-within, part-lent, code-in, leads-known, rows-next, leads-long}
 use Rattle.joins.proofs.put_led_rows.Statement.{statement}
 use Rattle.joins.proofs.put_led_rows.Tie as tie
 
@@ -61,7 +61,7 @@ same-length-2 : tie.Need-same-length-2 Inv-loop μ-loop
 same-length-2 c = search rows-long
 
 returns : tie.Need-returns Inv-loop μ-loop
-returns c = search rows-put
+returns c = (search rows-put, search leads-left)
 
 pub put-led-rows-spec : {M : Type 1} → statement M
 put-led-rows-spec =
