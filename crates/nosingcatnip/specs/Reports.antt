@@ -2,6 +2,7 @@
 use Prim.Native.Nat.{ℕ}
 use mathlib.Core.Path.{_≡_}
 use mathlib.Core.List.{List, [], _∷_}
+use lib.Seq.{sets}
 use Rattle.semantics.specs.Call as Call
 use Rattle.answers.specs.Outcomes.{Told, answer, refusal, wanted, labelsAfter, readingsAfter}
 
@@ -9,8 +10,8 @@ abbrev pub numbersOf : Told → List ℕ
 numbersOf (answer series points bytes) = 0 ∷ 0 ∷ 0 ∷ series ∷ points ∷ bytes ∷ []
 numbersOf (refusal number first second) = number ∷ first ∷ second ∷ 0 ∷ 0 ∷ 0 ∷ []
 
--- a call that is to come to `want` leaves its numbers in the result, and in the output parts what `want` says
-pub record Reported (want : Call.Outcome) (labels₀ out₀ labels out result : List ℕ) : Type 0 where
-  pub numbers : result ≡ numbersOf (wanted want)
+-- a call that is to come to `want` stores its six numbers in the result, which has six places, and leaves in the output parts what `want` says
+pub record Reported (want : Call.Outcome) (labels₀ out₀ labels out before result : List ℕ) : Type 0 where
+  pub numbers : result ≡ sets before 0 (numbersOf (wanted want))
   pub labelPart : labels ≡ labelsAfter want labels₀
   pub readingPart : out ≡ readingsAfter want out₀

@@ -3,13 +3,14 @@ use answers::Outcome;
 ghost use mathlib.Core.Path.{_≡_};
 ghost use mathlib.Core.List.{[], _∷_};
 ghost use lib.ListN.{length};
+ghost use lib.Seq.{sets};
 ghost use Rattle.semantics.specs.Call.{call};
 ghost use Rattle.answers.specs.Outcomes.{told};
 ghost use Rattle.nosingcatnip.specs.Reports.{numbersOf, Reported};
 
 // What an outcome is in six numbers: number and fields of a refusal, then series, points and label bytes of an answer.
 fn report(outcome: Outcome, result: &mut [u64; 6])
-    ensures { λ _. ⌜ now (result .exit) ≡ numbersOf (told outcome) ⌝ }
+    ensures { λ _. ⌜ now (result .exit) ≡ sets (now (result .entry)) 0 (numbersOf (told outcome)) ⌝ }
 {
     match outcome {
         Outcome::Answer {
@@ -31,7 +32,7 @@ fn report(outcome: Outcome, result: &mut [u64; 6])
 }
 
 fn refuse(result: &mut [u64; 6], number: u64, first: usize, second: usize)
-    ensures { λ _. ⌜ now (result .exit) ≡ number ∷ first ∷ second ∷ 0 ∷ 0 ∷ 0 ∷ [] ⌝ }
+    ensures { λ _. ⌜ now (result .exit) ≡ sets (now (result .entry)) 0 (number ∷ first ∷ second ∷ 0 ∷ 0 ∷ 0 ∷ []) ⌝ }
 {
     put(result, number, first, second, 0, 0, 0);
 }
@@ -45,7 +46,7 @@ fn put(
     points: usize,
     bytes: usize,
 )
-    ensures { λ _. ⌜ now (result .exit) ≡ number ∷ first ∷ second ∷ series ∷ points ∷ bytes ∷ [] ⌝ }
+    ensures { λ _. ⌜ now (result .exit) ≡ sets (now (result .entry)) 0 (number ∷ first ∷ second ∷ series ∷ points ∷ bytes ∷ []) ⌝ }
 {
     result[0] = number;
     result[1] = first as u64;
@@ -67,7 +68,7 @@ pub extern "C" fn nosingcatnip_exec_binop<'a>(
     out: &mut [u64],
     result: &mut [u64; 6],
 )
-    ensures { λ _. ⌜ Reported (call (now (query .entry)) (now («left_labels» .entry)) (now (left .entry)) (now («right_labels» .entry)) (now (right .entry)) (length (now («out_labels» .entry))) (length (now (out .entry)))) (now («out_labels» .entry)) (now (out .entry)) (now («out_labels» .exit)) (now (out .exit)) (now (result .exit)) ⌝ }
+    ensures { λ _. ⌜ Reported (call (now (query .entry)) (now («left_labels» .entry)) (now (left .entry)) (now («right_labels» .entry)) (now (right .entry)) (length (now («out_labels» .entry))) (length (now (out .entry)))) (now («out_labels» .entry)) (now (out .entry)) (now («out_labels» .exit)) (now (out .exit)) (now (result .entry)) (now (result .exit)) ⌝ }
 {
     let outcome = binop_vector_vector::exec_binop(
         query,

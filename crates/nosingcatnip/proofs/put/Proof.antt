@@ -1,5 +1,5 @@
 use borrow.Author.Needs.{needs}
-use Rattle.nosingcatnip.proofs.Reports.{all-six}
+use mathlib.Core.Path.{refl}
 use Rattle.nosingcatnip.proofs.put.Statement.{statement}
 use Rattle.nosingcatnip.proofs.put.Tie as tie
 use Rattle.nosingcatnip.proofs.put.Reads as reads
@@ -31,7 +31,7 @@ element-write-result-6 c = search needs
 
 -- src/lib.rt:39:1
 returns : tie.Need-returns
-returns c = search all-six
+returns c = refl
 
 pub put-spec : {M : Type 1} → statement M
 put-spec =

@@ -1,5 +1,5 @@
 use borrow.Author.Needs.{needs}
-use Rattle.nosingcatnip.proofs.Reports.{answer-told}
+use Rattle.nosingcatnip.proofs.Reports.{told-by}
 use Rattle.nosingcatnip.proofs.report.Statement.{statement}
 use Rattle.nosingcatnip.proofs.report.Tie as tie
 use Rattle.nosingcatnip.proofs.report.Reads as reads
@@ -97,47 +97,47 @@ refuse-requires-10 c κs = search needs
 
 -- src/lib.rt:11:1
 returns : tie.Need-returns
-returns c = search answer-told
+returns c = search told-by
 
 -- src/lib.rt:11:1
 returns-2 : tie.Need-returns-2
-returns-2 c = search needs
+returns-2 c = search told-by
 
 -- src/lib.rt:11:1
 returns-3 : tie.Need-returns-3
-returns-3 c = search needs
+returns-3 c = search told-by
 
 -- src/lib.rt:11:1
 returns-4 : tie.Need-returns-4
-returns-4 c = search needs
+returns-4 c = search told-by
 
 -- src/lib.rt:11:1
 returns-5 : tie.Need-returns-5
-returns-5 c = search needs
+returns-5 c = search told-by
 
 -- src/lib.rt:11:1
 returns-6 : tie.Need-returns-6
-returns-6 c = search needs
+returns-6 c = search told-by
 
 -- src/lib.rt:11:1
 returns-7 : tie.Need-returns-7
-returns-7 c = search needs
+returns-7 c = search told-by
 
 -- src/lib.rt:11:1
 returns-8 : tie.Need-returns-8
-returns-8 c = search needs
+returns-8 c = search told-by
 
 -- src/lib.rt:11:1
 returns-9 : tie.Need-returns-9
-returns-9 c = search needs
+returns-9 c = search told-by
 
 -- src/lib.rt:11:1
 returns-10 : tie.Need-returns-10
-returns-10 c = search needs
+returns-10 c = search told-by
 
 -- src/lib.rt:11:1
 returns-11 : tie.Need-returns-11
-returns-11 c = search needs
+returns-11 c = search told-by
 
 pub report-spec : {M : Type 1} → statement M
 report-spec =
