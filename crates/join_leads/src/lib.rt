@@ -74,7 +74,7 @@ pub fn mark_leads<'a>(
             leads[o] = find_lead(many, array, at, leads, &hashes, o, h, join, skip);
             hashes[o] = h;
         } else {
-            leads[o] = timeseries::DROPPED;
+            leads[o] = key_places::DROPPED;
         }
     }
 }
@@ -86,7 +86,7 @@ fn try_lead(rows: &[u64], p: usize, leads: &[usize], o: usize, allowance: usize)
     requires narrow { ⌜ p ≤ 1024 ⌝ }
     ensures { λ r. ⌜ TriedAs (mergeLead allowance p (now (rows .entry)) (now (leads .entry)) o) r ⌝ }
 {
-    if timeseries::last_of(leads, o) == o {
+    if key_places::last_of(leads, o) == o {
         return Merges::Done;
     }
     let mut work = [0u64; 1024];

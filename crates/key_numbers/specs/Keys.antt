@@ -1,16 +1,15 @@
--- Keys numbered by their first place, over both sides, and the number of a series that takes no part. Assumes nothing.
+-- Keys numbered by their first place, over both sides. Assumes nothing.
 use Prim.Native.Nat.{ℕ, _+_}
 use mathlib.Core.Path.{_≡_}
-use mathlib.Core.Bool.{Bool, cond}
-use mathlib.Core.List.{List, [], _∷_, _++_, map}
-use lib.ListN.{length, take, drop}
+use mathlib.Core.Bool.{Bool}
+use mathlib.Core.List.{List, _++_, map}
+use lib.ListN.{length}
 use Rattle.model.specs.Labels.{Labels, sameTags}
 use Rattle.model.specs.Edits.{Names}
 use Rattle.model.specs.Query.{Matching, keyOf}
-use Rattle.model.specs.Row.{onlyMissing}
 use Rattle.signature.specs.Keys.{hashOf}
 use Rattle.timeseries.specs.Sides.{labelsIn, Positions}
-use Rattle.timeseries.specs.Places.{firstWhere}
+use Rattle.key_places.specs.Places.{firstWhere}
 
 -- 01: Full tags are compared: no 64-bit hash.
 abbrev pub sameKeys : Matching → Names → Labels → Labels → Bool
@@ -37,15 +36,3 @@ pub record Hashed (m : Matching) (ns : Names) (array at hashes : List ℕ) : Typ
 pub record Numbered (m : Matching) (ns : Names) (before : List Labels) (array at hashes keys : List ℕ) : Type 0 where
   pub hashed : Hashed m ns array at hashes
   pub numbered : keys ≡ numbers m ns (before ++ labelsIn array at) (labelsIn array at)
-
--- matches nothing: numbers are below 1,024
-abbrev pub dropped : ℕ
-dropped = 1024
-
--- 01: first drops series with only N
-abbrev pub keptNumber : List ℕ → ℕ → ℕ
-keptNumber row k = cond (onlyMissing row) dropped k
-
-unfoldable pub droppedMissing : ℕ → List ℕ → List ℕ → List ℕ
-droppedMissing p rows [] = []
-droppedMissing p rows (k ∷ ks) = keptNumber (take p rows) k ∷ droppedMissing p (drop p rows) ks

@@ -1,8 +1,8 @@
--- `timeseries::same_key` meets its contract. Assumes nothing.
+-- `key_numbers::same_key` meets its contract. Assumes nothing.
 use borrow.Author.Needs.{needs}
-use Rattle.timeseries.proofs.Finding.{hashes-differ}
-use Rattle.timeseries.proofs.same_key.Statement.{statement}
-use Rattle.timeseries.proofs.same_key.Tie as tie
+use Rattle.key_numbers.proofs.Finding.{hashes-differ}
+use Rattle.key_numbers.proofs.same_key.Statement.{statement}
+use Rattle.key_numbers.proofs.same_key.Tie as tie
 
 returns : tie.Need-returns
 returns c = search hashes-differ

@@ -15,12 +15,12 @@ use Rattle.model.specs.Laws.Lists.{map-append}
 use Rattle.labels.specs.Names.{namesOf}
 use Rattle.metric_name.specs.Lenient.{labelsOf}
 use Rattle.signature.specs.Keys.{recordKey, hashOf}
 use Rattle.timeseries.specs.Sides.{recordAt, labelsIn, Positions}
 use Rattle.timeseries.specs.SideLaws.{labels-at, labels-count, labels-first, positions-first}
-use Rattle.timeseries.specs.Places.{firstWhere, first-within}
-use Rattle.timeseries.specs.Keys.{sameKeys, firstPlace, numbers, keyHashes, Hashed, Numbered}
-use Rattle.timeseries.specs.KeyLaws.{place-so-far}
-use Rattle.timeseries.proofs.Finding.{side-count}
+use Rattle.key_places.specs.Places.{firstWhere, first-within}
+use Rattle.key_numbers.specs.Keys.{sameKeys, firstPlace, numbers, keyHashes, Hashed, Numbered}
+use Rattle.key_numbers.specs.KeyLaws.{place-so-far}
+use Rattle.key_numbers.proofs.Finding.{side-count}
 
 module _ (m : Matching) (list array at hashes : List ℕ) (s : Hashed m (namesOf list) array at hashes) where
   pub place-within : (j : ℕ) (l : Labels) → j ≡ firstPlace m (namesOf list) (labelsIn array at) l → j ≤ length hashes

@@ -1,12 +1,12 @@
--- `timeseries::number_right` meets its contract. Assumes nothing.
+-- `key_numbers::number_right` meets its contract. Assumes nothing.
 use borrow.Author.Needs.{needs}
 use Prim.Native.Nat.{_-_}
 use lib.ListN.{length}
 use Rattle.labels.specs.Matchings.{matchingOf}
 use Rattle.timeseries.specs.Sides.{labelsIn}
-use Rattle.timeseries.proofs.Numbering.{Numbering, number-starts, number-positions, number-inside, number-cut, number-hashes, number-so-far, number-turn, number-ends}
-use Rattle.timeseries.proofs.number_right.Statement.{statement}
-use Rattle.timeseries.proofs.number_right.Tie as tie
+use Rattle.key_numbers.proofs.Numbering.{Numbering, number-starts, number-positions, number-inside, number-cut, number-hashes, number-so-far, number-turn, number-ends}
+use Rattle.key_numbers.proofs.number_right.Statement.{statement}
+use Rattle.key_numbers.proofs.number_right.Tie as tie
 
 abbrev Inv-loop : tie.InvT-loop
 Inv-loop left left-at left-hashes array at matching list hashes₀ keys₀ i₀ hashes keys i = Numbering (matchingOf matching) list (labelsIn left left-at) array at hashes₀ keys₀ hashes keys i

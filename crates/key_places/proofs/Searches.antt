@@ -10,7 +10,7 @@ use lib.ListN.{length, getD, drop, drop-of-length-le}
 use lib.Seq.{drop-cons}
 use borrow.Author.Tests.{eq-eqb, ne-eqb, ltb-true, ltb-false}
 use Rattle.model.specs.Lists.{cases}
-use Rattle.timeseries.specs.Places.{firstWhere, firstOf, lastOf, first-yes, first-no, first-none, last-is, last-nowhere}
+use Rattle.key_places.specs.Places.{firstWhere, firstOf, lastOf, first-yes, first-no, first-none, last-is, last-nowhere}
 
 -- the first i places do not have the key
 pub record Ahead (keys : List ℕ) (k i : ℕ) : Type 0 where

@@ -1,10 +1,10 @@
--- `timeseries::first_of` meets its contract. Assumes nothing.
+-- `key_places::first_of` meets its contract. Assumes nothing.
 use borrow.Author.Needs.{needs}
 use Prim.Native.Nat.{_-_}
 use lib.ListN.{length}
-use Rattle.timeseries.proofs.Searches.{Ahead, first-starts, first-turn, first-here, first-ends}
-use Rattle.timeseries.proofs.first_of.Statement.{statement}
-use Rattle.timeseries.proofs.first_of.Tie as tie
+use Rattle.key_places.proofs.Searches.{Ahead, first-starts, first-turn, first-here, first-ends}
+use Rattle.key_places.proofs.first_of.Statement.{statement}
+use Rattle.key_places.proofs.first_of.Tie as tie
 
 abbrev Inv-loop : tie.InvT-loop
 Inv-loop keys k i₀ i = Ahead keys k i

@@ -1,10 +1,10 @@
--- `timeseries::last_of` meets its contract. Assumes nothing.
+-- `key_places::last_of` meets its contract. Assumes nothing.
 use borrow.Author.Needs.{needs}
 use Prim.Native.Nat.{_-_}
 use lib.ListN.{length}
-use Rattle.timeseries.proofs.Searches.{Behind, last-starts, last-turn, last-here, last-ends}
-use Rattle.timeseries.proofs.last_of.Statement.{statement}
-use Rattle.timeseries.proofs.last_of.Tie as tie
+use Rattle.key_places.proofs.Searches.{Behind, last-starts, last-turn, last-here, last-ends}
+use Rattle.key_places.proofs.last_of.Statement.{statement}
+use Rattle.key_places.proofs.last_of.Tie as tie
 
 abbrev Inv-loop : tie.InvT-loop
 Inv-loop keys k j₀ j = Behind keys k j

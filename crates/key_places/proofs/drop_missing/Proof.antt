@@ -1,10 +1,10 @@
--- `timeseries::drop_missing` meets its contract. Assumes nothing.
+-- `key_places::drop_missing` meets its contract. Assumes nothing.
 use borrow.Author.Needs.{needs}
 use Prim.Native.Nat.{_-_}
 use lib.ListN.{length}
-use Rattle.timeseries.proofs.Dropping.{Dropping, drop-starts, drop-room, drop-turn, drop-ends}
-use Rattle.timeseries.proofs.drop_missing.Statement.{statement}
-use Rattle.timeseries.proofs.drop_missing.Tie as tie
+use Rattle.key_places.proofs.Dropping.{Dropping, drop-starts, drop-room, drop-turn, drop-ends}
+use Rattle.key_places.proofs.drop_missing.Statement.{statement}
+use Rattle.key_places.proofs.drop_missing.Tie as tie
 
 abbrev Inv-loop : tie.InvT-loop
 Inv-loop rows p keys₀ i₀ keys i = Dropping rows p keys₀ keys i

@@ -1,8 +1,8 @@
--- `timeseries::number_kept` meets its contract. Assumes nothing.
+-- `key_places::number_kept` meets its contract. Assumes nothing.
 use borrow.Author.Needs.{needs}
-use Rattle.timeseries.proofs.Dropping.{row-gone, row-stays}
-use Rattle.timeseries.proofs.number_kept.Statement.{statement}
-use Rattle.timeseries.proofs.number_kept.Tie as tie
+use Rattle.key_places.proofs.Dropping.{row-gone, row-stays}
+use Rattle.key_places.proofs.number_kept.Statement.{statement}
+use Rattle.key_places.proofs.number_kept.Tie as tie
 
 only-missing-requires : tie.Need-only-missing-requires
 only-missing-requires c κs = search needs

@@ -1,8 +1,8 @@
--- `timeseries::number_left` meets its contract. Assumes nothing.
+-- `key_numbers::number_left` meets its contract. Assumes nothing.
 use borrow.Author.Needs.{needs}
-use Rattle.timeseries.proofs.Numbering.{one-position, none-hashed, none-before}
-use Rattle.timeseries.proofs.number_left.Statement.{statement}
-use Rattle.timeseries.proofs.number_left.Tie as tie
+use Rattle.key_numbers.proofs.Numbering.{one-position, none-hashed, none-before}
+use Rattle.key_numbers.proofs.number_left.Statement.{statement}
+use Rattle.key_numbers.proofs.number_left.Tie as tie
 
 slice-aggregate-number-right : tie.Need-slice-aggregate-number-right
 slice-aggregate-number-right c = search one-position

@@ -14,11 +14,11 @@ use Rattle.model.specs.Query.{Matching, keyOf}
 use Rattle.labels.specs.Names.{namesOf}
 use Rattle.metric_name.specs.Lenient.{labelsOf}
 use Rattle.signature.specs.Keys.{recordKey, hashOf, same-hash}
 use Rattle.timeseries.specs.Sides.{recordAt, labelsIn, Positions}
 use Rattle.timeseries.specs.SideLaws.{labels-at, labels-count}
-use Rattle.timeseries.specs.Places.{firstWhere, first-yes, first-no, first-none, first-within, first-left, first-right}
-use Rattle.timeseries.specs.Keys.{sameKeys, firstPlace, keyHashes, Hashed}
-use Rattle.timeseries.specs.KeyLaws.{map-at}
+use Rattle.key_places.specs.Places.{firstWhere, first-yes, first-no, first-none, first-within, first-left, first-right}
+use Rattle.key_numbers.specs.Keys.{sameKeys, firstPlace, keyHashes, Hashed}
+use Rattle.key_numbers.specs.KeyLaws.{map-at}
 
 -- keys of different hashes differ
 pub hashes-differ : (g h : ℕ) (ts us : List Tag) → g ≡ hashOf ts → h ≡ hashOf us → (g ≡ h → ⊥) → false ≡ sameTags ts us

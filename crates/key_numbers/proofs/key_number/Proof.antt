@@ -1,10 +1,10 @@
--- `timeseries::key_number` meets its contract. Assumes nothing.
+-- `key_numbers::key_number` meets its contract. Assumes nothing.
 use borrow.Author.Needs.{needs}
 use native.Mathlib.Omega.{arith}
-use Rattle.timeseries.proofs.Finding.{number-left-one, number-own}
-use Rattle.timeseries.proofs.Numbering.{place-within}
-use Rattle.timeseries.proofs.key_number.Statement.{statement}
-use Rattle.timeseries.proofs.key_number.Tie as tie
+use Rattle.key_numbers.proofs.Finding.{number-left-one, number-own}
+use Rattle.key_numbers.proofs.Numbering.{place-within}
+use Rattle.key_numbers.proofs.key_number.Statement.{statement}
+use Rattle.key_numbers.proofs.key_number.Tie as tie
 
 find-key-requires : tie.Need-find-key-requires
 find-key-requires c κs = search needs

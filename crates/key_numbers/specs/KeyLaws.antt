@@ -1,23 +1,21 @@
 -- Laws of key numbers: equal exactly where keys are, below the count, and the same over one side and over both. Assumes nothing.
-use Prim.Native.Nat.{ℕ, zero, suc, _+_, _*_, _≤_, _<_}
+use Prim.Native.Nat.{ℕ, zero, suc, _+_, _<_}
 use mathlib.Core.Path.{_≡_, refl, sym, ap, _∙_}
 use mathlib.Core.Bool.{Bool, true, false}
 use mathlib.Core.List.{List, [], _∷_, _++_, map}
-use native.Mathlib.Nat.{zero-mul, suc-mul, add-comm}
 use native.Mathlib.Omega.{arith}
 use lib.Dec.{eqb}
-use lib.ListN.{length, getD, take, drop, List·getD-append, length-append}
-use lib.Seq.{getD-append-add, take-append-add, drop-drop}
-use borrow.Author.Tests.{eqb-true, eq-eqb, ne-eqb}
+use lib.ListN.{length, getD, take, List·getD-append, length-append}
+use lib.Seq.{getD-append-add, take-append-add}
+use borrow.Author.Tests.{eqb-true, eq-eqb}
 use Rattle.model.specs.Lists.{cases}
 use Rattle.model.specs.Labels.{Labels, sameTags}
 use Rattle.model.specs.Edits.{Names}
 use Rattle.model.specs.Query.{Matching, keyOf}
 use Rattle.model.specs.Laws.Booleans.{never}
 use Rattle.model.specs.Laws.Tags.{same-tags-is, same-tags-refl, is-same-tags}
-use Rattle.timeseries.specs.Sides.{rowAt}
-use Rattle.timeseries.specs.Places.{firstWhere, first-within, first-holds, first-found, first-take, first-left, first-right}
-use Rattle.timeseries.specs.Keys.{sameKeys, firstPlace, numbers, dropped, keptNumber, droppedMissing}
+use Rattle.key_places.specs.Places.{firstWhere, first-within, first-holds, first-found, first-take, first-left, first-right}
+use Rattle.key_numbers.specs.Keys.{sameKeys, firstPlace, numbers}
 
 pub map-at : {A B : Type 0} (f : A → B) (xs : List A) (i : ℕ) (d : A) (e : B) → i < length xs → getD (map f xs) i e ≡ f (getD xs i d)
 map-at f [] i d e h = absurd (omega arith)
@@ -142,21 +140,3 @@ module _ (m : Matching) (ns : Names) (lefts rights : List Labels) (keys keys′ 
 
   pub right-below : (d : Labels) (i : ℕ) → i < length rights → getD keys′ i 0 < length lefts + length rights
   right-below d i h = rw (hr, ← length-append lefts rights) (number-below m ns (lefts ++ rights) rights rights i i d h h (on-right i d h) (on-right i d h))
-
--- a series with only missing readings has a number that no key has
-
-pub dropped-count : (p : ℕ) (rows keys : List ℕ) → length (droppedMissing p rows keys) ≡ length keys
-unfolding droppedMissing
-dropped-count p rows [] = refl
-dropped-count p rows (k ∷ ks) = ap suc (dropped-count p (drop p rows) ks)
-
-pub dropped-at : (p : ℕ) (rows keys : List ℕ) (i : ℕ) → i < length keys → getD (droppedMissing p rows keys) i 0 ≡ keptNumber (rowAt rows p i) (getD keys i 0)
-unfolding droppedMissing
-dropped-at p rows [] i h = absurd (omega arith)
-dropped-at p rows (k ∷ ks) zero h = rw (zero-mul p)
-dropped-at p rows (k ∷ ks) (suc i) h =
-    let next : drop (suc i * p) rows ≡ drop (i * p) (drop p rows) = ap (λ (n : ℕ). drop n rows) (suc-mul i p ∙ add-comm (i * p) p) ∙ sym (drop-drop (i * p) p rows) in
-    rw next (dropped-at p (drop p rows) ks i (omega arith))
-
-pub dropped-apart : (k : ℕ) → k < 1024 → eqb k dropped ≡ false
-dropped-apart k h = ne-eqb k dropped (λ e. absurd (omega (arith, e)))

@@ -1,11 +1,11 @@
--- `timeseries::find_key` meets its contract. Assumes nothing.
+-- `key_numbers::find_key` meets its contract. Assumes nothing.
 use borrow.Author.Needs.{needs}
 use Prim.Native.Nat.{_-_}
 use lib.ListN.{length}
 use Rattle.labels.specs.Matchings.{matchingOf}
-use Rattle.timeseries.proofs.Finding.{Finding, side-positions, find-inside, find-hash, find-starts, find-turn, find-here, find-ends}
-use Rattle.timeseries.proofs.find_key.Statement.{statement}
-use Rattle.timeseries.proofs.find_key.Tie as tie
+use Rattle.key_numbers.proofs.Finding.{Finding, side-positions, find-inside, find-hash, find-starts, find-turn, find-here, find-ends}
+use Rattle.key_numbers.proofs.find_key.Statement.{statement}
+use Rattle.key_numbers.proofs.find_key.Tie as tie
 
 abbrev Inv-loop : tie.InvT-loop
 Inv-loop array at hashes rec h matching list i₀ i = Finding (matchingOf matching) list array at hashes rec i

@@ -9,8 +9,8 @@ use native.Mathlib.Omega.{arith}
 use lib.ListN.{length, getD, take, drop, set, length-set, drop-of-length-le}
 use lib.Seq.{drop-cons, take-suc-set, drop-set-lt, append-snoc, take-all, drop-drop}
 use Rattle.model.specs.Row.{onlyMissing}
 use Rattle.timeseries.specs.Sides.{rowAt}
-use Rattle.timeseries.specs.Keys.{dropped, keptNumber, droppedMissing}
+use Rattle.key_places.specs.Dropped.{dropped, keptNumber, droppedMissing}
 
 pub row-gone : (row : List ℕ) (k : ℕ) (b : Bool) → b ≡ onlyMissing row → b ≡ true → 1024 ≡ keptNumber row k
 row-gone row k b h e = rw (← h, e)
