@@ -325,7 +325,7 @@ fn work_of(q: Query, left: bool, join: &[u8], skip: &[u8]) -> Work
         operator,
         bool: q.bool,
         left,
-        naming: set_tags::naming_of(join, skip, reset),
+        naming: naming::naming_of(join, skip, reset),
     }
 }
 

@@ -39,7 +39,13 @@ fn find_lead<'a>(
         n += 1;
         if leads[i] == i {
             if hashes[i] == h {
-                if set_tags::same_edited(many, timeseries::record(array, at, i), rec, join, skip) {
+                if edited_alike::same_edited(
+                    many,
+                    timeseries::record(array, at, i),
+                    rec,
+                    join,
+                    skip,
+                ) {
                     return i;
                 }
             }
@@ -70,7 +76,7 @@ pub fn mark_leads<'a>(
         let o = i;
         i += 1;
         if keys[o] == k {
-            let h = set_tags::hash_edited(many, timeseries::record(array, at, o), join, skip);
+            let h = edited_alike::hash_edited(many, timeseries::record(array, at, o), join, skip);
             leads[o] = find_lead(many, array, at, leads, &hashes, o, h, join, skip);
             hashes[o] = h;
         } else {

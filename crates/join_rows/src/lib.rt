@@ -1,6 +1,6 @@
 // One answer series of a join, written by itself: its record at a place of the labels, its readings in a part of their own.
+use naming::Naming;
 use operator::Operator;
-use set_tags::Naming;
 ghost use mathlib.Core.Path.{_≡_};
 ghost use Prim.Native.Nat.{_+_, _*_, _≤_, _<_};
 ghost use lib.ListN.{length};
