@@ -21,8 +21,8 @@ use Rattle.labels.specs.Names.{namesOf}
 use Rattle.query.specs.declared.Join.the-variants as J
 use Rattle.query.specs.declared.Query.{Query}
 use Rattle.query.specs.Queries.{queryOf, joinOf, resets, matchingPart, joinPart}
-use Rattle.set_tags.specs.declared.Naming.{Naming}
-use Rattle.set_tags.specs.Records.{namingOf}
+use Rattle.naming.specs.declared.Naming.{Naming}
+use Rattle.naming.specs.Namings.{namingOf}
 use Rattle.pairs.proofs.Edits.{by-kind}
 use Rattle.join_rows.specs.declared.Work.{Work}
 use Rattle.joins.specs.Joined.{WorkOf, Joined}

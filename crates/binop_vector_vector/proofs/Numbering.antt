@@ -14,7 +14,7 @@ use Rattle.labels.specs.Matchings.{matchingOf}
 use Rattle.query.specs.declared.Query.{Query}
 use Rattle.query.specs.Queries.{matchingPart, queryOf}
 use Rattle.timeseries.specs.Sides.{Positions}
-use Rattle.timeseries.specs.Keys.{droppedMissing}
+use Rattle.key_places.specs.Dropped.{droppedMissing}
 use Rattle.binop_vector_vector.specs.Lent.{LentSide}
 use Rattle.binop_vector_vector.specs.Keyed.{dropsMissing, keptKeys, Keyed, NumbersKept}
 

@@ -9,7 +9,7 @@ use Rattle.plan.specs.Conclude.{conclude}
 use Rattle.plan.specs.Joins.{joinClash, joinRowsFrom, joinSeries}
 use Rattle.query.specs.declared.Query.{Query}
 use Rattle.query.specs.Queries.{resets}
-use Rattle.set_tags.specs.Records.{namingOf}
+use Rattle.naming.specs.Namings.{namingOf}
 use Rattle.timeseries.specs.Sides.{labelsIn}
 use Rattle.join_rows.specs.declared.Work.{Work}
 use Rattle.join_rows.specs.Codes.{sideOf}

@@ -9,8 +9,9 @@ use lib.ListN.{length, getD, take, drop}
 use Rattle.model.specs.Labels.{Labels}
 use Rattle.model.specs.Query.{Query, sameKey}
 use Rattle.model.specs.Vector.{Series, seriesOf}
-use Rattle.timeseries.specs.Keys.{sameKeys, numbers, keptNumber, droppedMissing}
-use Rattle.timeseries.specs.KeyLaws.{left-left, left-right, right-right, left-below, right-below}
+use Rattle.key_places.specs.Dropped.{keptNumber, droppedMissing}
+use Rattle.key_numbers.specs.Keys.{sameKeys, numbers}
+use Rattle.key_numbers.specs.KeyLaws.{left-left, left-right, right-right, left-below, right-below}
 use Rattle.plan.specs.Keys.{dropped}
 use Rattle.plan.specs.Laws.Common.{noSeries, labelsOfSide, getD-labels}
 use Rattle.plan.specs.Laws.Numbers.{TellsKeys, KeysTold, droppedKeys}

@@ -11,8 +11,8 @@ use Rattle.model.specs.Edits.{Names}
 use Rattle.model.specs.Query.{Matching, Query}
 use Rattle.timeseries.specs.Sides.{labelsIn, sideOf}
 use Rattle.timeseries.specs.SideLaws.{labels-count}
-use Rattle.timeseries.specs.Keys.{firstPlace, numbers, droppedMissing}
-use Rattle.timeseries.specs.KeyLaws.{dropped-count}
+use Rattle.key_numbers.specs.Keys.{firstPlace, numbers}
+use Rattle.key_places.specs.Dropped.{droppedMissing, dropped-count}
 use Rattle.plan.specs.Laws.Keyed.{Numbers}
 use Rattle.plan.specs.Laws.Numbers.{KeysTold, numbers-all, numbers-kept}
 use Rattle.binop_vector_vector.specs.Lent.{LentSide}

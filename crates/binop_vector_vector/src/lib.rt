@@ -48,7 +48,7 @@ fn number_hashed(
     requires { ⌜ length (now «right_hashes») ≡ length (now «right_keys») ⌝ }
     ensures { λ _. ⌜ SidesNumbered (matchingOf matching) (namesOf (now (names .entry))) (now («left_labels» .entry)) (now («left_at» .entry)) (now («left_keys» .exit)) (now («right_labels» .entry)) (now («right_at» .entry)) (now («right_keys» .exit)) ⌝ }
 {
-    timeseries::number_left(
+    key_numbers::number_left(
         left_labels,
         left_at,
         matching,
@@ -56,7 +56,7 @@ fn number_hashed(
         left_hashes,
         left_keys,
     );
-    timeseries::number_right(
+    key_numbers::number_right(
         left_labels,
         left_at,
         left_hashes,
@@ -126,8 +126,8 @@ fn drop_for(
     if op.is_comparison() {
         return;
     }
-    timeseries::drop_missing(left, p, left_keys);
-    timeseries::drop_missing(right, p, right_keys);
+    key_places::drop_missing(left, p, left_keys);
+    key_places::drop_missing(right, p, right_keys);
 }
 
 // Numbers the keys of both sides' series that take part.
@@ -325,7 +325,7 @@ fn work_of(q: Query, left: bool, join: &[u8], skip: &[u8]) -> Work
         operator,
         bool: q.bool,
         left,
-        naming: set_tags::naming_of(join, skip, reset),
+        naming: naming::naming_of(join, skip, reset),
     }
 }
 

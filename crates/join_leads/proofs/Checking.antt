@@ -16,7 +16,7 @@ use Rattle.model.specs.Limits.{maxSeries}
 use Rattle.model.specs.Lists.{cases}
 use Rattle.model.specs.Query.{Side}
 use Rattle.semantics.specs.Events.{Duplicate}
-use Rattle.timeseries.specs.Places.{lastOf, last-greatest}
+use Rattle.key_places.specs.Places.{lastOf, last-greatest}
 use Rattle.plan.specs.Conclude.{orElse}
 use Rattle.plan.specs.Merging.{rowAt, RowMerge, row, failedAt, mergeGroup, mergeLead, clash}
 use Rattle.plan.specs.Joins.{leadsClash, leadRows, rowCode}

@@ -21,7 +21,7 @@ use Rattle.plan.specs.Joins.{sameEditedBy, leadOf, leadsAmong, leadsOf}
 use Rattle.labels.specs.Names.{namesOf}
 use Rattle.metric_name.specs.Lenient.{labelsOf}
 use Rattle.signature.specs.Keys.{hashOf, same-hash}
-use Rattle.set_tags.specs.Streams.{editedTags}
+use Rattle.edited_tags.specs.Streams.{editedTags}
 use Rattle.timeseries.specs.Sides.{recordAt, labelsIn, Positions}
 use Rattle.timeseries.specs.SideLaws.{labels-at, labels-count}
 use Rattle.join_leads.specs.Lent.{Lent, ListedBy, joined-tags}

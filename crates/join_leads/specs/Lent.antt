@@ -9,8 +9,9 @@ use Rattle.model.specs.Edits.{Names}
 use Rattle.model.specs.Query.{Query}
 use Rattle.semantics.specs.Binop.{shouldResetMetricGroup, skipList, joinedLabels}
 use Rattle.metric_name.specs.Lenient.{labelsOf}
-use Rattle.set_tags.specs.Streams.{editedTags}
-use Rattle.set_tags.specs.Records.{namingOf, edited, edited-is}
+use Rattle.edited_tags.specs.Streams.{editedTags}
+use Rattle.naming.specs.Namings.{namingOf}
+use Rattle.set_tags.specs.Records.{edited, edited-is}
 use Rattle.timeseries.specs.Sides.{recordAt, Positions}
 
 -- a label array, the positions of its records and the key numbers of their series

@@ -9,7 +9,7 @@ use Rattle.model.specs.Query.{Query}
 use Rattle.plan.specs.Joins.{leadOf, leadsOf}
 use Rattle.metric_name.specs.Lenient.{labelsOf}
 use Rattle.signature.specs.Keys.{hashOf}
-use Rattle.set_tags.specs.Streams.{editedTags}
+use Rattle.edited_tags.specs.Streams.{editedTags}
 use Rattle.timeseries.specs.Sides.{recordAt, labelsIn}
 use Rattle.join_leads.specs.Lent.{Lent, ListedBy}
 

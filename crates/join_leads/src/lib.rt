@@ -39,7 +39,13 @@ fn find_lead<'a>(
         n += 1;
         if leads[i] == i {
             if hashes[i] == h {
-                if set_tags::same_edited(many, timeseries::record(array, at, i), rec, join, skip) {
+                if edited_alike::same_edited(
+                    many,
+                    timeseries::record(array, at, i),
+                    rec,
+                    join,
+                    skip,
+                ) {
                     return i;
                 }
             }
@@ -70,11 +76,11 @@ pub fn mark_leads<'a>(
         let o = i;
         i += 1;
         if keys[o] == k {
-            let h = set_tags::hash_edited(many, timeseries::record(array, at, o), join, skip);
+            let h = edited_alike::hash_edited(many, timeseries::record(array, at, o), join, skip);
             leads[o] = find_lead(many, array, at, leads, &hashes, o, h, join, skip);
             hashes[o] = h;
         } else {
-            leads[o] = timeseries::DROPPED;
+            leads[o] = key_places::DROPPED;
         }
     }
 }
@@ -86,7 +92,7 @@ fn try_lead(rows: &[u64], p: usize, leads: &[usize], o: usize, allowance: usize)
     requires narrow { ⌜ p ≤ 1024 ⌝ }
     ensures { λ r. ⌜ TriedAs (mergeLead allowance p (now (rows .entry)) (now (leads .entry)) o) r ⌝ }
 {
-    if timeseries::last_of(leads, o) == o {
+    if key_places::last_of(leads, o) == o {
         return Merges::Done;
     }
     let mut work = [0u64; 1024];

@@ -127,7 +127,7 @@ pub fn plan_join<'a>(
         let m = i;
         let k = many_keys[m];
         i += 1;
-        if k != timeseries::DROPPED {
+        if k != key_places::DROPPED {
             let rec = timeseries::record(many_array, many_at, m);
             match plan_many(rec, m, k, n, p, array, at, keys, rows, join, skip, list) {
                 Plan::Rows(count) => n = count,

@@ -16,7 +16,7 @@ use Rattle.semantics.specs.Binop.{joinRows}
 use Rattle.plan.specs.Merging.{RowMerge, row, failedAt, mergeLead, rowAt}
 use Rattle.plan.specs.Joins.{leadsOf}
 use Rattle.metric_name.specs.Lenient.{labelsOf}
-use Rattle.timeseries.specs.Places.{lastOf}
+use Rattle.key_places.specs.Places.{lastOf}
 use Rattle.timeseries.specs.Sides.{labelsIn}
 use Rattle.merging.specs.declared.Merges.{Merges}
 use Rattle.merging.specs.declared.Merges.the-variants as M

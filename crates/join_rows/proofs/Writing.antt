@@ -12,8 +12,8 @@ use Rattle.model.specs.Record.{encode}
 use Rattle.plan.specs.Merging.{rowAt}
 use Rattle.metric_name.specs.Lenient.{labelsOf}
 use Rattle.label_edits.specs.Written.{Put}
-use Rattle.set_tags.specs.declared.Naming.{Naming}
-use Rattle.set_tags.specs.Streams.{editedTags}
+use Rattle.naming.specs.declared.Naming.{Naming}
+use Rattle.edited_tags.specs.Streams.{editedTags}
 use Rattle.set_tags.specs.Records.{ShortRecords, edited}
 use Rattle.timeseries.specs.Sides.{recordAt, Positions}
 use Rattle.join_leads.specs.Lent.{Lent}

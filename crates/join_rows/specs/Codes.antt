@@ -6,7 +6,7 @@ use lib.ListN.{length}
 use Rattle.model.specs.Labels.{Labels}
 use Rattle.model.specs.Edits.{Names}
 use Rattle.model.specs.Query.{Side, left, right}
-use Rattle.set_tags.specs.declared.Naming.{Naming}
+use Rattle.naming.specs.declared.Naming.{Naming}
 use Rattle.set_tags.specs.Records.{edited}
 use Rattle.timeseries.specs.Sides.{recordAt}
 

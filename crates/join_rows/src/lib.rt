@@ -1,6 +1,6 @@
 // One answer series of a join, written by itself: its record at a place of the labels, its readings in a part of their own.
+use naming::Naming;
 use operator::Operator;
-use set_tags::Naming;
 ghost use mathlib.Core.Path.{_≡_};
 ghost use Prim.Native.Nat.{_+_, _*_, _≤_, _<_};
 ghost use lib.ListN.{length};
@@ -70,7 +70,7 @@ pub fn lead_row(w: Work, many: &[u64], rows: &[u64], leads: &[usize], o: usize, 
     ensures { λ _. ⌜ LeadRow w (now (many .entry)) (now (rows .entry)) (now (leads .entry)) o (length (now (out .entry))) (now (out .exit)) ⌝ }
 {
     let p = out.len();
-    if timeseries::last_of(leads, o) == o {
+    if key_places::last_of(leads, o) == o {
         apply_join(w, many, timeseries::row(rows, p, o), out);
         return;
     }

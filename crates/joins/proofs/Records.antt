@@ -16,10 +16,11 @@ use Rattle.label_edits.specs.Written.{Put}
 use Rattle.label_edits.specs.Edited.{Sized}
 use Rattle.label_edits.specs.declared.Size.{Size}
 use Rattle.label_edits.proofs.Sizes.{length-labels}
-use Rattle.set_tags.specs.declared.Naming.{Naming}
-use Rattle.set_tags.specs.declared.Naming.the-variants.{Nobody, Many, Source}
-use Rattle.set_tags.specs.Streams.{editedTags}
-use Rattle.set_tags.specs.Records.{ShortRecords, nameOf, edited}
+use Rattle.naming.specs.declared.Naming.{Naming}
+use Rattle.naming.specs.declared.Naming.the-variants.{Nobody, Many, Source}
+use Rattle.edited_tags.specs.Streams.{editedTags}
+use Rattle.naming.specs.Namings.{nameOf}
+use Rattle.set_tags.specs.Records.{ShortRecords, edited}
 use Rattle.set_tags.proofs.Sizes.{edited-short}
 use Rattle.timeseries.specs.Sides.{recordAt, Positions}
 use Rattle.answers.specs.declared.Tally.{Tally}

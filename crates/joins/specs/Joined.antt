@@ -14,7 +14,7 @@ use Rattle.semantics.specs.Call.{fit}
 use Rattle.semantics.specs.Binop.{shouldResetMetricGroup}
 use Rattle.plan.specs.Conclude.{conclude}
 use Rattle.plan.specs.Joins.{joinClash, joinRowsFrom, joinSeries}
-use Rattle.set_tags.specs.Records.{namingOf}
+use Rattle.naming.specs.Namings.{namingOf}
 use Rattle.timeseries.specs.Sides.{labelsIn}
 use Rattle.answers.specs.declared.Outcome.{Outcome}
 use Rattle.answers.specs.declared.Outcome.the-variants.{Answer, LeftTwice, RightTwice}

@@ -5,7 +5,7 @@ use answers::Tally;
 use join_plan::Plan;
 use join_rows::Work;
 use label_edits::Size;
-use set_tags::Naming;
+use naming::Naming;
 ghost use mathlib.Core.Path.{_≡_};
 ghost use mathlib.Core.Bool.{false};
 ghost use Prim.Native.Nat.{_+_, _*_, _/_, _≤_, _<_};

@@ -21,7 +21,7 @@ use Rattle.plan.specs.Merging.{rowAt, RowMerge, row, failedAt, onRow, mergeGrou
 use Rattle.merging.specs.declared.Merges.{Merges}
 use Rattle.merging.specs.declared.Merges.the-variants.{Done, FailedAt}
 use Rattle.merging.specs.Groups.{absorbedOne, thereIf, AbsorbedAs, MergedGroup}
-use Rattle.timeseries.specs.Places as Places
+use Rattle.key_places.specs.Places as Places
 use Rattle.merging.specs.Laws.{last-places, last-within}
 
 -- `absorb`

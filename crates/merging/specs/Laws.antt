@@ -8,8 +8,8 @@ use lib.Dec.{eqb, ltb}
 use lib.ListN.{length, getD, take}
 use borrow.Author.Tests.{eqb-true, eq-eqb, ltb-true, ltb-false, lt-ltb, le-ltb}
 use Rattle.model.specs.Lists.{cases}
-use Rattle.timeseries.specs.Places as Places
-use Rattle.timeseries.specs.Places.{firstWhere, lastWhere, last-later, last-here, last-absent}
+use Rattle.key_places.specs.Places as Places
+use Rattle.key_places.specs.Places.{firstWhere, lastWhere, last-later, last-here, last-absent}
 use Rattle.plan.specs.Keys.{firstOf, lastFrom, lastOf}
 use Rattle.plan.specs.Merging.{rowAt, row, mergeGroup, mergeLast}
 

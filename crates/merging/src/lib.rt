@@ -12,7 +12,7 @@ ghost use Rattle.merging.specs.Groups.{AbsorbedAs, MergedGroup};
 pub fn is_single(keys: &[usize], k: usize) -> bool
     ensures { λ r. ⌜ r ≡ eqb (firstOf (now (keys .entry)) k) (lastOf (now (keys .entry)) k) ⌝ }
 {
-    timeseries::first_of(keys, k) == timeseries::last_of(keys, k)
+    key_places::first_of(keys, k) == key_places::last_of(keys, k)
 }
 
 // Merges the row of series i, whose group is x, if that is g. Says whether the row is merged as it should be.
@@ -76,7 +76,7 @@ pub fn merge_last(
     ensures { λ r. ⌜ MergedGroup (mergeLast allowance (length (now (dst .entry))) (now (rows .entry)) (now (keys .entry)) k) (length (now (dst .entry))) (now (dst .exit)) r ⌝ }
 {
     let p = dst.len();
-    let last = timeseries::last_of(keys, k);
+    let last = key_places::last_of(keys, k);
     answers::copy_row(dst, timeseries::row(rows, p, last));
     merge_between(rows, keys, k, 0, last, allowance, dst)
 }

@@ -10,7 +10,7 @@ use lib.ListN.{length, drop, length-drop}
 use lib.Seq.{length-take-le}
 use borrow.Author.Tests.{eqb-true}
 use Rattle.model.specs.Row.{zipWith}
-use Rattle.timeseries.specs.Places as Places
+use Rattle.key_places.specs.Places as Places
 use Rattle.plan.specs.Keys.{firstOf, lastOf}
 use Rattle.plan.specs.Merging.{RowMerge, failedAt, rowAt, mergeLast, rowOf}
 use Rattle.merging.specs.declared.Merges.{Merges}

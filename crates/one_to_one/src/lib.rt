@@ -58,7 +58,7 @@ fn with_right(
 {
     let p = out.len();
     if merging::is_single(rkeys, k) {
-        let j = timeseries::last_of(rkeys, k);
+        let j = key_places::last_of(rkeys, k);
         rows::apply_rows(op, bool, left, timeseries::row(right, p, j), out);
         return;
     }
@@ -117,7 +117,7 @@ fn pair_row(
     let p = out.len();
     let k = lkeys[j];
     if merging::is_single(lkeys, k) {
-        let last = timeseries::last_of(lkeys, k);
+        let last = key_places::last_of(lkeys, k);
         with_right(
             op,
             bool,

@@ -13,7 +13,7 @@ use borrow.Author.Tests.{eq-eqb, ne-eqb, eqb-true, ltb-true, not-true}
 use Rattle.model.specs.Query as Model
 use Rattle.model.specs.Laws.Booleans.{both-of}
 use Rattle.semantics.specs.Events.{Duplicate}
-use Rattle.timeseries.specs.Places as Places
+use Rattle.key_places.specs.Places as Places
 use Rattle.plan.specs.Keys.{dropped, firstOf, lastOf}
 use Rattle.plan.specs.Merging.{RowMerge, row, failedAt, rowAt, mergeLast, clash}
 use Rattle.plan.specs.Conclude.{orElse}

@@ -10,7 +10,7 @@ use lib.Seq.{drop-cons}
 use Rattle.model.specs.Lists.{cases}
 use Rattle.label_edits.specs.Written.{Put}
 use Rattle.label_edits.proofs.Written.{written-none, put-byte-done, Rest, rest-start, rest-put, rest-done}
-use Rattle.timeseries.specs.Places as Places
+use Rattle.key_places.specs.Places as Places
 use Rattle.plan.specs.Keys.{lastOf}
 use Rattle.plan.specs.Pairs.{isPair, pairsFrom}
 use Rattle.merging.specs.Laws.{last-places}

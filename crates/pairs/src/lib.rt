@@ -71,13 +71,13 @@ fn is_pair(lkeys: &[usize], rkeys: &[usize], i: usize) -> bool
     ensures { λ r. ⌜ r ≡ isPair (now (lkeys .entry)) (now (rkeys .entry)) (getD (now (lkeys .entry)) i 0) i ⌝ }
 {
     let k = lkeys[i];
-    if k == timeseries::DROPPED {
+    if k == key_places::DROPPED {
         return false;
     }
-    if timeseries::first_of(lkeys, k) != i {
+    if key_places::first_of(lkeys, k) != i {
         return false;
     }
-    timeseries::first_of(rkeys, k) < rkeys.len()
+    key_places::first_of(rkeys, k) < rkeys.len()
 }
 
 // The series of a key merged in a work row.
@@ -140,12 +140,12 @@ fn check_pair(
 {
     match ensure_single_timeseries(left, lkeys, k, p, allowance) {
         Merges::FailedAt(failed) => Checked::Left {
-            kept: timeseries::last_of(lkeys, k),
+            kept: key_places::last_of(lkeys, k),
             failed,
         },
         Merges::Done => match ensure_single_timeseries(right, rkeys, k, p, allowance) {
             Merges::FailedAt(failed) => Checked::Right {
-                kept: timeseries::last_of(rkeys, k),
+                kept: key_places::last_of(rkeys, k),
                 failed,
             },
             Merges::Done => Checked::Fine,
@@ -206,7 +206,7 @@ fn list_pair(lkeys: &[usize], rkeys: &[usize], i: usize, list: &mut [usize], n: 
     ensures { λ r. ⌜ Put (now (list .entry)) n (pairAt (now (lkeys .entry)) (now (rkeys .entry)) i (getD (now (lkeys .entry)) i 0)) (now (list .exit)) r ⌝ }
 {
     if is_pair(lkeys, rkeys, i) {
-        list[n] = timeseries::last_of(lkeys, lkeys[i]);
+        list[n] = key_places::last_of(lkeys, lkeys[i]);
         return n + 1;
     }
     n

@@ -15,7 +15,7 @@ use Rattle.model.specs.Labels.{Labels}
 use Rattle.plan.specs.Keys.{firstOf}
 use Rattle.plan.specs.Merging.{rowAt}
 use Rattle.plan.specs.Sets.{SetSides, metPlaces, leftAnswers, leftsFrom, rightsFrom, setRows}
-use Rattle.timeseries.specs.Places as Places
+use Rattle.key_places.specs.Places as Places
 use Rattle.merging.specs.Laws.{first-places}
 use Rattle.set_kernels.specs.Places.{NotedIf, NotedAll, RightSide}
 use Rattle.set_kernels.proofs.Noting.{Noting, noting-starts, noting-turn, noting-length, noting-ends}

@@ -74,7 +74,7 @@ fn list_right(lkeys: &[usize], keys: &[usize], n: usize, list: &mut [usize]) -> 
     let mut r = n;
     let mut j: usize = 0;
     while j < keys.len() {
-        let here = timeseries::first_of(lkeys, keys[j]) == lkeys.len();
+        let here = key_places::first_of(lkeys, keys[j]) == lkeys.len();
         r = set_kernels::note_if(here, lkeys.len() + j, r, list);
         j += 1;
     }

@@ -19,10 +19,12 @@ use Rattle.metric_name.specs.Cursors.{encodeTag, encode-tag}
 use Rattle.label_edits.specs.Edited.{TagsSized, Sized}
 use Rattle.label_edits.specs.declared.Size.{Size}
 use Rattle.label_edits.proofs.Sizes.{length-labels, chosen-short, tags-short}
-use Rattle.set_tags.specs.Streams.{editedTags, set-sieve, staying-sieve}
-use Rattle.set_tags.specs.Records.{ShortRecords, nameOf, edited}
-use Rattle.set_tags.specs.declared.Naming.{Naming}
-use Rattle.set_tags.specs.declared.Naming.the-variants.{Nobody, Many, Source}
+use Rattle.tag_streams.specs.Sieves.{set-sieve, staying-sieve}
+use Rattle.edited_tags.specs.Streams.{editedTags}
+use Rattle.naming.specs.Namings.{nameOf}
+use Rattle.set_tags.specs.Records.{ShortRecords, edited}
+use Rattle.naming.specs.declared.Naming.{Naming}
+use Rattle.naming.specs.declared.Naming.the-variants.{Nobody, Many, Source}
 
 no-bytes : length (encodeTags []) ≡ 0
 unfolding encodeTags

@@ -1,8 +1,8 @@
--- A join's edited record: its name, its labels, and that they are what `set_tags` gives. Assumes nothing.
+-- A join's edited record: its labels, and that they are what `set_tags` gives. Assumes nothing.
 use Prim.Native.Nat.{ℕ, _≤_}
 use mathlib.Core.Path.{_≡_, refl, sym, ap, _∙_}
 use mathlib.Core.Bool.{Bool, true, false, not, _&&_, cond}
-use mathlib.Core.List.{List, []}
+use mathlib.Core.List.{List}
 use lib.ListN.{length}
 use Rattle.model.specs.Limits.{maxLabelBytes}
 use Rattle.model.specs.Labels.{Labels, nameLabel, WellFormed}
@@ -10,23 +10,15 @@ use Rattle.model.specs.Edits.{Names, isListed, clearNameIf, setTags}
 use Rattle.model.specs.Laws.Edits.{clear-well}
 use Rattle.model.specs.Laws.SetTags.{stayingTags, setFrom, mergeTags, set-tags-merge, set-tags-name}
 use Rattle.metric_name.specs.Lenient.{labelsOf}
-use Rattle.set_tags.specs.declared.Naming.{Naming}
-use Rattle.set_tags.specs.declared.Naming.the-variants.{Nobody, Many, Source}
-use Rattle.set_tags.specs.Streams.{editedTags}
+use Rattle.naming.specs.declared.Naming.{Naming}
+use Rattle.naming.specs.declared.Naming.the-variants.{Nobody, Many, Source}
+use Rattle.naming.specs.Namings.{namingOf, nameOf}
+use Rattle.edited_tags.specs.Streams.{editedTags}
 
 -- records of a label array
 pub record ShortRecords (many source : List ℕ) : Type 0 where
   pub manyShort : length many ≤ maxLabelBytes
   pub sourceShort : length source ≤ maxLabelBytes
-
--- 01: its name cleared where `should_reset_metric_group` says and its tags then set by `set_tags`; `__name__` from the source's name
-abbrev pub namingOf : Names → Names → Bool → Naming
-namingOf join skip reset = cond (not (isListed skip nameLabel) && isListed join nameLabel) Source (cond reset Nobody Many)
-
-abbrev pub nameOf : Naming → List ℕ → List ℕ → List ℕ
-nameOf Nobody many source = []
-nameOf Many many source = labelsOf many .name
-nameOf Source many source = labelsOf source .name
 
 -- the edited labels, read off the two records
 abbrev pub edited : Names → Names → Naming → List ℕ → List ℕ → Labels

@@ -5,7 +5,7 @@ use Rattle.binop_vector_vector.proofs.work_of.Tie as tie
 use Rattle.binop_vector_vector.proofs.work_of.Reads as reads
 use Rattle.binop_vector_vector.proofs.work_of.Lts as lts
 use Rattle.query.proofs.resets_name.Reads as resets-name-reads
-use Rattle.set_tags.proofs.naming_of.Reads as naming-of-reads
+use Rattle.naming.proofs.naming_of.Reads as naming-of-reads
 
 -- src/lib.rt:323:9
 resets-name-requires : tie.Need-resets-name-requires

@@ -7,7 +7,7 @@ use Rattle.join_leads.proofs.find_lead.Statement.{statement}
 use Rattle.join_leads.proofs.find_lead.Tie as tie
 use Rattle.join_leads.proofs.find_lead.Reads as reads
 use Rattle.join_leads.proofs.find_lead.Lts as lts
-use Rattle.set_tags.proofs.same_edited.Reads as same-edited-reads
+use Rattle.edited_alike.proofs.same_edited.Reads as same-edited-reads
 use Rattle.timeseries.proofs.record.Reads as record-reads
 
 abbrev Inv-loop : tie.InvT-loop

@@ -9,7 +9,7 @@ use Rattle.join_leads.proofs.mark_leads.Tie as tie
 use Rattle.join_leads.proofs.mark_leads.Reads as reads
 use Rattle.join_leads.proofs.mark_leads.Lts as lts
 use Rattle.join_leads.proofs.find_lead.Reads as find-lead-reads
-use Rattle.set_tags.proofs.hash_edited.Reads as hash-edited-reads
+use Rattle.edited_alike.proofs.hash_edited.Reads as hash-edited-reads
 use Rattle.timeseries.proofs.record.Reads as record-reads
 
 abbrev Inv-loop : tie.InvT-loop

@@ -6,7 +6,7 @@ use Rattle.join_leads.proofs.try_lead.Tie as tie
 use Rattle.join_leads.proofs.try_lead.Reads as reads
 use Rattle.join_leads.proofs.try_lead.Lts as lts
 use Rattle.merging.proofs.merge_lead.Reads as merge-lead-reads
-use Rattle.timeseries.proofs.last_of.Reads as last-of-reads
+use Rattle.key_places.proofs.last_of.Reads as last-of-reads
 
 -- src/lib.rt:89:8
 last-of-requires : tie.Need-last-of-requires

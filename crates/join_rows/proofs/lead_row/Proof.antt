@@ -8,7 +8,7 @@ use Rattle.join_rows.proofs.lead_row.Reads as reads
 use Rattle.join_rows.proofs.lead_row.Lts as lts
 use Rattle.join_rows.proofs.apply_join.Reads as apply-join-reads
 use Rattle.join_rows.proofs.merged_row.Reads as merged-row-reads
-use Rattle.timeseries.proofs.last_of.Reads as last-of-reads
+use Rattle.key_places.proofs.last_of.Reads as last-of-reads
 use Rattle.timeseries.proofs.row.Reads as row-reads
 
 -- src/lib.rt:73:8

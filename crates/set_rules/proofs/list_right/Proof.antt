@@ -7,7 +7,7 @@ use Rattle.set_rules.proofs.list_right.Tie as tie
 use Rattle.set_rules.proofs.list_right.Reads as reads
 use Rattle.set_rules.proofs.list_right.Lts as lts
 use Rattle.set_kernels.proofs.note_if.Reads as note-if-reads
-use Rattle.timeseries.proofs.first_of.Reads as first-of-reads
+use Rattle.key_places.proofs.first_of.Reads as first-of-reads
 
 abbrev Inv-loop : tie.InvT-loop
 Inv-loop lkeys keys n list₀ r₀ j₀ list r j = RightListing lkeys keys n list₀ r j list

@@ -4,8 +4,9 @@ use Rattle.labels.specs.Names.{namesOf}
 use Rattle.signature.specs.Keys.{hashOf}
 use Rattle.model.specs.Labels.{sameTags}
 use Prim.Native.Nat.{_+_}
-use Rattle.set_tags.specs.Streams.{editedTags}
-use Rattle.set_tags.proofs.Loops.{SizeLeft, size-start, size-done, size-turn, tags-fit, bytes-fit, edit-order, edit-fewer}
+use Rattle.edited_tags.specs.Streams.{editedTags}
+use Rattle.edited_tags.proofs.Found.{edit-order, edit-fewer}
+use Rattle.set_tags.proofs.Loops.{SizeLeft, size-start, size-done, size-turn, tags-fit, bytes-fit}
 use Rattle.set_tags.proofs.edited_size.Statement.{statement}
 use Rattle.set_tags.proofs.edited_size.Tie as tie
 

@@ -1,0 +1,121 @@
+-- `number_right` and `number_left`: the keys numbered so far are those of the whole. Assumes nothing.
+use Prim.Native.Nat.{ℕ, suc, _+_, _-_, _≤_, _<_}
+use mathlib.Core.Path.{_≡_, refl, sym, ap, _∙_}
+use mathlib.Core.List.{List, [], _∷_, _++_, map}
+use native.Mathlib.Numerals.{add-one}
+use native.Mathlib.Omega.{arith}
+use mir.Syntax.{w64}
+use mir.Val.{Fits}
+use lib.ListN.{length, getD, take, drop, set, length-set}
+use lib.Seq.{take-suc, take-suc-set, take-all, length-take-le}
+use Rattle.model.specs.Labels.{Labels}
+use Rattle.model.specs.Edits.{Names}
+use Rattle.model.specs.Query.{Matching, keyOf}
+use Rattle.model.specs.Laws.Lists.{map-append}
+use Rattle.labels.specs.Names.{namesOf}
+use Rattle.metric_name.specs.Lenient.{labelsOf}
+use Rattle.signature.specs.Keys.{recordKey, hashOf}
+use Rattle.timeseries.specs.Sides.{recordAt, labelsIn, Positions}
+use Rattle.timeseries.specs.SideLaws.{labels-at, labels-count, labels-first, positions-first}
+use Rattle.key_places.specs.Places.{firstWhere, first-within}
+use Rattle.key_numbers.specs.Keys.{sameKeys, firstPlace, numbers, keyHashes, Hashed, Numbered}
+use Rattle.key_numbers.specs.KeyLaws.{place-so-far}
+use Rattle.key_numbers.proofs.Finding.{side-count}
+
+module _ (m : Matching) (list array at hashes : List ℕ) (s : Hashed m (namesOf list) array at hashes) where
+  pub place-within : (j : ℕ) (l : Labels) → j ≡ firstPlace m (namesOf list) (labelsIn array at) l → j ≤ length hashes
+  unfolding firstPlace
+  place-within j l e = omega (arith, e, first-within (λ k. sameKeys m (namesOf list) k l) (labelsIn array at), side-count m list array at hashes s)
+
+-- i keys are numbered
+pub record Numbering (m : Matching) (list : List ℕ) (lefts : List Labels) (array at hashes₀ keys₀ hashes keys : List ℕ) (i : ℕ) : Type 0 where
+  pub positions : Positions array at
+  pub count : length at ≡ length keys + 1
+  pub long : length hashes ≡ length keys
+  pub within : i ≤ length keys
+  pub same-hashes : length hashes ≡ length hashes₀
+  pub same-keys : length keys ≡ length keys₀
+  pub alike : take i hashes ≡ keyHashes m (namesOf list) (take i (labelsIn array at))
+  pub numbered : take i keys ≡ numbers m (namesOf list) (lefts ++ labelsIn array at) (take i (labelsIn array at))
+
+module _ (m : Matching) (list : List ℕ) (lefts : List Labels) (array at hashes₀ keys₀ : List ℕ) where
+  pub number-starts : Positions array at → length at ≡ length keys₀ + 1 → length hashes₀ ≡ length keys₀ → Numbering m list lefts array at hashes₀ keys₀ hashes₀ keys₀ 0
+  number-starts h e f = record { positions = h; count = e; long = f; within = omega arith; same-hashes = refl; same-keys = refl; alike = refl; numbered = refl }
+
+  module _ (hashes keys : List ℕ) (i : ℕ) (n : Numbering m list lefts array at hashes₀ keys₀ hashes keys i) where
+    labels-long : length (labelsIn array at) ≡ length keys
+    labels-long = labels-count array at ∙ (omega (arith, n .count))
+
+    module _ (h : i < length keys) where
+      pub number-inside : i + 1 < length at
+      number-inside = omega (arith, n .count)
+
+      pub number-positions : Positions array at
+      number-positions = n .positions
+
+      pub number-cut : i + 1 ≡ length (take (i + 1) at)
+      number-cut = sym (length-take-le (i + 1) at (omega (arith, n .count)))
+
+      pub number-hashes : i ≡ length (take i hashes)
+      number-hashes = sym (length-take-le i hashes (omega (arith, n .long)))
+
+      -- the records so far, with their hashes
+      pub number-so-far : Hashed m (namesOf list) array (take (i + 1) at) (take i hashes)
+      number-so-far =
+          record { positions = positions-first array at (i + 1) (n .positions); count = omega (arith, number-cut, number-hashes); alike = n .alike ∙ ap (keyHashes m (namesOf list)) (sym (labels-first array at i)) }
+
+      pub number-turn : (rec : List ℕ) → rec ≡ recordAt array at i → (x : ℕ) → x ≡ hashOf (recordKey m list rec)
+          → (k : ℕ) → k ≡ firstPlace m (namesOf list) (lefts ++ labelsIn array (take (i + 1) at)) (labelsOf rec)
+          → Numbering m list lefts array at hashes₀ keys₀ (set hashes i x) (set keys i k) (i + 1)
+      number-turn rec hr x hx k hk =
+          let ls = labelsIn array at in
+          let d = labelsOf [] in
+          let l = getD ls i d in
+          let within : i < length ls = omega (arith, labels-long) in
+          let here : labelsOf rec ≡ l = ap labelsOf hr ∙ sym (labels-at array at i d number-inside) in
+          let more : take (suc i) ls ≡ take i ls ++ (l ∷ []) = take-suc ls i d within in
+          let hash : x ≡ hashOf (keyOf m (namesOf list) (l .tags)) = hx ∙ ap (λ (y : Labels). hashOf (keyOf m (namesOf list) (y .tags))) here in
+          let number : k ≡ firstPlace m (namesOf list) (lefts ++ ls) l =
+          hk ∙ ap (λ (y : List Labels). firstPlace m (namesOf list) (lefts ++ y) (labelsOf rec)) (labels-first array at i)
+          ∙ ap (firstPlace m (namesOf list) (lefts ++ take i ls)) here ∙ place-so-far m (namesOf list) lefts ls i d within in
+          record {
+            positions = n .positions;
+            count = simp length-set (n .count);
+            long = simp length-set (n .long);
+            within = simp length-set (omega arith);
+            same-hashes = simp length-set (n .same-hashes);
+            same-keys = simp length-set (n .same-keys);
+            alike = rw (add-one i, take-suc-set hashes i x (omega (arith, n .long)), more, map-append, n .alike, hash);
+            numbered = rw (add-one i, take-suc-set keys i k h, more, map-append, n .numbered, number);
+          }
+
+    pub number-ends : length keys ≤ i → Numbered m (namesOf list) lefts array at hashes keys
+    number-ends h =
+        let all : take i (labelsIn array at) ≡ labelsIn array at = take-all i (labelsIn array at) (omega (arith, labels-long)) in
+        record {
+          hashed = record {
+            positions = n .positions;
+            count = omega (arith, n .count, n .long);
+            alike = sym (take-all i hashes (omega (arith, n .long))) ∙ n .alike ∙ ap (keyHashes m (namesOf list)) all;
+          };
+          numbered = sym (take-all i keys h) ∙ n .numbered ∙ ap (numbers m (namesOf list) (lefts ++ labelsIn array at)) all;
+        }
+
+-- the left side has nothing before it
+
+pub no-records : (array at : List ℕ) → labelsIn array (take 1 at) ≡ []
+no-records array at = labels-first array at 0
+
+module _ (array at keys : List ℕ) (h : Positions array at) (k : length at ≡ length keys + 1) where
+  pub one-position : 1 ≡ length (take 1 at)
+  one-position = sym (length-take-le 1 at (omega arith))
+
+  pub none-hashed : (m : Matching) (ns : Names) (none : List ℕ) → Hashed m ns array (take 1 at) (take 0 none)
+  none-hashed m ns none = record {
+    positions = positions-first array at 1 h;
+    count = sym one-position;
+    alike = sym (ap (keyHashes m ns) (no-records array at));
+  }
+
+pub none-before : (m : Matching) (ns : Names) (array at hashes keys : List ℕ) → Numbered m ns (labelsIn array (take 1 at)) array at hashes keys → Numbered m ns [] array at hashes keys
+none-before m ns array at hashes keys n = record { hashed = n .hashed; numbered = n .numbered ∙ rw (no-records array at) }
