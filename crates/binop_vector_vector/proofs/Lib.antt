@@ -1,6 +1,1 @@
 pub mod Stages
-pub mod Numbering
-pub mod Verdicts
-pub mod Sides
-pub mod Operators
-pub mod Matched

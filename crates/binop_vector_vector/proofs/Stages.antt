@@ -26,8 +26,9 @@ use Rattle.timeseries.specs.TakeLaws.{SideTaken, side-taken, taken-long, taken-
 use Rattle.answers.specs.declared.Outcome.{Outcome}
 use Rattle.answers.specs.declared.Outcome.the-variants as Out
 use Rattle.answers.specs.Outcomes.{Ran}
-use Rattle.binop_vector_vector.specs.Lent.{LentSide, lentVector, bytes-of, readings-of, lent-vector, lent-side}
-use Rattle.binop_vector_vector.specs.Stages.{Asked, asked-carried, leftStage, rightStage, ranOver, call-asked, call-operator, call-malformed}
+use Rattle.keyed_sides.specs.Lent.{LentSide, lentVector, bytes-of, readings-of, lent-vector, lent-side}
+use Rattle.dispatch.specs.Runs.{Asked, ranOver}
+use Rattle.binop_vector_vector.specs.Stages.{asked-carried, leftStage, rightStage, call-asked, call-operator, call-malformed}
 
 -- a query, taken or refused
 

@@ -1,12 +1,12 @@
 use borrow.Author.Needs.{needs}
 use mathlib.Core.Path.{sym}
-use Rattle.binop_vector_vector.proofs.Numbering.{kept-asked}
+use Rattle.keyed_sides.proofs.Numbering.{kept-asked}
 use Rattle.binop_vector_vector.proofs.run_numbered.Statement.{statement}
 use Rattle.binop_vector_vector.proofs.run_numbered.Tie as tie
 use Rattle.binop_vector_vector.proofs.run_numbered.Reads as reads
 use Rattle.binop_vector_vector.proofs.run_numbered.Lts as lts
-use Rattle.binop_vector_vector.proofs.number_kept.Reads as number-kept-reads
-use Rattle.binop_vector_vector.proofs.run_keyed.Reads as run-keyed-reads
+use Rattle.keyed_sides.proofs.number_kept.Reads as number-kept-reads
+use Rattle.dispatch.proofs.run_keyed.Reads as run-keyed-reads
 
 -- src/lib.rt:213:9
 sub-number-kept : tie.Need-sub-number-kept

@@ -1,0 +1,4 @@
+pub mod Verdicts
+pub mod Sides
+pub mod Operators
+pub mod Matched

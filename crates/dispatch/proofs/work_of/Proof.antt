@@ -1,0 +1,23 @@
+use borrow.Author.Needs.{needs}
+use Rattle.dispatch.proofs.Matched.{work-is}
+use Rattle.dispatch.proofs.work_of.Statement.{statement}
+use Rattle.dispatch.proofs.work_of.Tie as tie
+use Rattle.dispatch.proofs.work_of.Reads as reads
+use Rattle.dispatch.proofs.work_of.Lts as lts
+use Rattle.query.proofs.resets_name.Reads as resets-name-reads
+use Rattle.naming.proofs.naming_of.Reads as naming-of-reads
+
+-- src/lib.rt:323:9
+resets-name-requires : tie.Need-resets-name-requires
+resets-name-requires c κs = search needs
+
+-- src/lib.rt:328:17
+naming-of-requires : tie.Need-naming-of-requires
+naming-of-requires c κs = search needs
+
+-- src/lib.rt:319:1
+returns : tie.Need-returns
+returns c = search work-is
+
+pub work-of-spec : {M : Type 1} → statement M
+work-of-spec = tie.close (tie.spec resets-name-requires naming-of-requires returns)
