@@ -26,10 +26,10 @@ fn first_reading(rows: &[u64], p: usize, i: usize, places: &[usize]) -> u64
     let mut j: usize = 0;
     loop {
         if places.len() <= j {
-            break binaryop::MISSING;
+            break reading::MISSING;
         }
         let x = rows[places[j] * p + i];
-        if binaryop::is_missing(x) {
+        if reading::is_missing(x) {
             j += 1;
         } else {
             break x;
@@ -57,7 +57,7 @@ fn leaves(rule: SetRule, left: &[u64], rows: &[u64], places: &[usize]) -> bool
     let mut i: usize = 0;
     while i < left.len() {
         let right = first_reading(rows, p, i, places);
-        if binaryop::is_missing(set_point(rule, left[i], right)) {
+        if reading::is_missing(set_point(rule, left[i], right)) {
             i += 1;
         } else {
             return true;
@@ -100,7 +100,7 @@ fn filled_point(left: u64, rows: &[u64], p: usize, i: usize, places: &[usize]) -
     requires { ⌜ Within p (now rows) (now places) ⌝ }
     ensures { λ r. ⌜ r ≡ onReading filled left (readingOf (firstAt p (now (rows .entry)) i (now (places .entry)))) ⌝ }
 {
-    if binaryop::is_missing(left) {
+    if reading::is_missing(left) {
         binaryop::op_default(left, first_reading(rows, p, i, places))
     } else {
         left
@@ -141,9 +141,9 @@ fn set_one(rule: SetRule, left: &[u64], right: &[u64], out: &mut [u64])
     ensures { λ _. ⌜ now (out .exit) ≡ zipWith (onReading (meant rule)) (now (left .entry)) (now (right .entry)) ⌝ }
 {
     match rule {
-        SetRule::WhereFound => rows::if_rows(left, right, out),
-        SetRule::WhereNone => rows::if_not_rows(left, right, out),
-        SetRule::Filled => rows::default_rows(left, right, out),
+        SetRule::WhereFound => set_rows::if_rows(left, right, out),
+        SetRule::WhereNone => set_rows::if_not_rows(left, right, out),
+        SetRule::Filled => set_rows::default_rows(left, right, out),
     }
 }
 
