@@ -1,3 +1,1 @@
-pub mod Nan
-pub mod Comparing
 pub mod Dispatch

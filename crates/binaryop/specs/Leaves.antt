@@ -1,16 +1,7 @@
--- What the code's small functions give: a gap as a number, a comparison's value, the readings of the set rules. Assumes nothing.
+-- What an operator without a scalar gives, and the readings of the set rules. Assumes nothing.
 use Prim.Native.Nat.{ℕ}
-use mathlib.Core.Bool.{Bool, true, false, cond}
-use Rattle.model.specs.Reading.{missing, noReading, oneOrZero}
-
--- 1 where x is missing
-unfoldable pub gapOf : ℕ → ℕ
-gapOf x = cond (missing x) 1 0
-
--- 01: Comparison gives the left reading if true, else N. With bool: left N gives N, else 1 or 0.
-abbrev pub comparisonValue : Bool → Bool → ℕ → ℕ
-comparisonValue true h x = cond (missing x) noReading (oneOrZero h)
-comparisonValue false h x = cond h x noReading
+use mathlib.Core.Bool.{cond}
+use Rattle.model.specs.Reading.{missing, noReading}
 
 -- what an operator that is neither arithmetic nor a comparison gives
 abbrev pub nothing : ℕ → ℕ → ℕ

@@ -14,7 +14,7 @@ use Rattle.model.specs.Reading.{missing}
 use Rattle.model.specs.Row.{overlaps, overwritten, merged}
 use Rattle.merge.specs.declared.Merged.{Merged}
 use Rattle.merge.specs.declared.Merged.the-variants.{Done, Overlapping, Unequal}
-use Rattle.binaryop.specs.Leaves.{gapOf}
+use Rattle.reading.specs.Gaps.{gapOf}
 use Rattle.merge.specs.Merging.{bothOf, sourceFirst, MergedAs, mergedAlone}
 
 -- 1 where both are readings

@@ -14,7 +14,7 @@ pub enum Merged {
 fn both(x: u64, y: u64) -> usize
     ensures { λ r. ⌜ r ≡ bothOf x y ⌝ }
 {
-    (1 - (binaryop::gap(x) | binaryop::gap(y))) as usize
+    (1 - (reading::gap(x) | reading::gap(y))) as usize
 }
 
 // At how many places both rows have a reading.
@@ -35,7 +35,7 @@ fn overlaps(dst: &[u64], src: &[u64]) -> usize
 fn source_first(x: u64, y: u64) -> u64
     ensures { λ r. ⌜ r ≡ sourceFirst x y ⌝ }
 {
-    binaryop::pick(binaryop::is_missing(y), x, y)
+    reading::pick(reading::is_missing(y), x, y)
 }
 
 // The source's readings over the destination's.

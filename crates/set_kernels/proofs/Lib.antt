@@ -1,4 +1,1 @@
-pub mod Searching
-pub mod Points
-pub mod Noting
 pub mod Left

@@ -19,7 +19,7 @@ use Rattle.answers.specs.declared.Room.{Room}
 use Rattle.answers.specs.declared.Room.the-variants as Room
 use Rattle.answers.specs.Tallies.{TallyOf, roomOf}
 use Rattle.answers.proofs.Concluding.{ran-too-large, ran-too-long, ran-answer}
-use Rattle.set_kernels.specs.Places.{RightSide}
+use Rattle.noting.specs.Places.{RightSide}
 use Rattle.set_rules.specs.Sides.{lentSides, rowLabels, RowsBelow}
 use Rattle.set_operators.specs.Answers.{BothLent, RowsLent, rowSeries, Roomy, AnswerPut, RowsAnswered}
 

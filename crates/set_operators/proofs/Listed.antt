@@ -15,8 +15,8 @@ use Rattle.timeseries.specs.Sides.{labelsIn}
 use Rattle.answers.specs.declared.Outcome.{Outcome}
 use Rattle.answers.specs.declared.Outcome.the-variants as Out
 use Rattle.answers.proofs.Concluding.{ran-too-many}
-use Rattle.set_kernels.specs.Places.{NotedAll}
-use Rattle.set_kernels.proofs.Noting.{noted-front}
+use Rattle.noting.specs.Places.{NotedAll}
+use Rattle.noting.proofs.Noting.{noted-front}
 use Rattle.set_rules.specs.Sides.{lentSides, rowSides, RowsBelow}
 use Rattle.set_rules.proofs.Listing.{lefts-varied}
 use Rattle.set_operators.specs.Answers.{BothLent, RowsLent, RowsAnswered, SetAnswered}

@@ -1,7 +1,7 @@
 // The six set operators: the answer series listed, measured, and written where they fit.
 use answers::Outcome;
 use answers::Room;
-use set_kernels::SetRule;
+use set_points::SetRule;
 ghost use mathlib.Core.Bool.{false, true};
 ghost use Prim.Native.Nat.{_≤_};
 ghost use lib.Dec.{eqb};
@@ -9,7 +9,7 @@ ghost use lib.ListN.{length};
 ghost use Rattle.operator.specs.Kinds.{whereFound, whereNone, filled};
 ghost use Rattle.model.specs.Limits.{maxPoints};
 ghost use Rattle.timeseries.specs.Sides.{labelsIn};
-ghost use Rattle.set_kernels.specs.Points.{meant};
+ghost use Rattle.set_points.specs.Points.{meant};
 ghost use Rattle.set_rules.specs.Rules.{bareSide};
 ghost use Rattle.set_rules.specs.Sides.{LentSide, lentSides};
 ghost use Rattle.set_operators.specs.Answers.{BothLent, RowsLent, rowSeries, Roomy, AnswerPut, RowsAnswered, SetAnswered};

@@ -17,8 +17,8 @@ use Rattle.plan.specs.Merging.{rowAt}
 use Rattle.plan.specs.Sets.{SetSides, metPlaces, leftAnswers, leftsFrom, rightsFrom, setRows}
 use Rattle.key_places.specs.Places as Places
 use Rattle.merging.specs.Laws.{first-places}
-use Rattle.set_kernels.specs.Places.{NotedIf, NotedAll, RightSide}
-use Rattle.set_kernels.proofs.Noting.{Noting, noting-starts, noting-turn, noting-length, noting-ends}
+use Rattle.noting.specs.Places.{NotedIf, NotedAll, RightSide}
+use Rattle.noting.proofs.Noting.{Noting, noting-starts, noting-turn, noting-length, noting-ends}
 use Rattle.set_rules.specs.Sides.{RowSide, rowSides}
 
 -- a row of a side lies within its readings, and has its width

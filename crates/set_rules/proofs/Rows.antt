@@ -18,7 +18,7 @@ use Rattle.plan.specs.Merging.{rowAt}
 use Rattle.plan.specs.Sets.{metPlaces, setPoint, firstAt, setRow, leftRow}
 use Rattle.answers.proofs.Writing.{Writing, writing-ends, writing-count}
 use Rattle.answers.proofs.Rows.{RowsWriting, rows-start, row-within}
-use Rattle.set_kernels.specs.Places.{RightSide}
+use Rattle.noting.specs.Places.{RightSide}
 use Rattle.set_rules.specs.Sides.{RowSide, rowSides, rowReadings, RowsBelow, RecordsPut}
 use Rattle.set_rules.proofs.Listing.{row-in, row-wide}
 

@@ -2,7 +2,7 @@
 use answers::Tally;
 use label_edits::Size;
 use labels::Place;
-use set_kernels::SetRule;
+use set_points::SetRule;
 ghost use mathlib.Core.Path.{_≡_};
 ghost use mathlib.Core.Bool.{false};
 ghost use Prim.Native.Nat.{_+_, _-_, _*_, _≤_, _<_};
@@ -16,8 +16,8 @@ ghost use Rattle.plan.specs.Sets.{leftsFrom, rightsFrom, setRows};
 ghost use Rattle.timeseries.specs.Sides.{labelsIn};
 ghost use Rattle.answers.specs.Outcomes.{startingWith};
 ghost use Rattle.answers.specs.Tallies.{TallyOf, recordsOf};
-ghost use Rattle.set_kernels.specs.Points.{meant};
-ghost use Rattle.set_kernels.specs.Places.{NotedAll, RightSide};
+ghost use Rattle.set_points.specs.Points.{meant};
+ghost use Rattle.noting.specs.Places.{NotedAll, RightSide};
 ghost use Rattle.set_rules.specs.Rules.{bareSide};
 ghost use Rattle.set_rules.specs.Sides.{SizedRecord, RecordSide, RowSide, rowSides, rowLabels, rowReadings, RowsBelow, RecordsPut};
 
@@ -58,7 +58,7 @@ fn list_left(
             keys,
             rows,
         );
-        n = set_kernels::note_if(here, i, n, list);
+        n = noting::note_if(here, i, n, list);
         i += 1;
     }
     n
@@ -75,7 +75,7 @@ fn list_right(lkeys: &[usize], keys: &[usize], n: usize, list: &mut [usize]) -> 
     let mut j: usize = 0;
     while j < keys.len() {
         let here = key_places::first_of(lkeys, keys[j]) == lkeys.len();
-        r = set_kernels::note_if(here, lkeys.len() + j, r, list);
+        r = noting::note_if(here, lkeys.len() + j, r, list);
         j += 1;
     }
     r

@@ -98,16 +98,16 @@ fn run_rows(what: u8, op: u8, bool: bool, left: &[u64], right: &[u64], out: &mut
         return;
     }
     if what == 1 {
-        rows::if_rows(left, right, out);
+        set_rows::if_rows(left, right, out);
         print_row(b"if", out);
         return;
     }
     if what == 2 {
-        rows::if_not_rows(left, right, out);
+        set_rows::if_not_rows(left, right, out);
         print_row(b"ifnot", out);
         return;
     }
-    rows::default_rows(left, right, out);
+    set_rows::default_rows(left, right, out);
     print_row(b"default", out);
 }
 

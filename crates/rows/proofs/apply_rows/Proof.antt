@@ -5,7 +5,7 @@ use borrow.Author.Needs.{needs}
 use Rattle.model.specs.Reading.{scalarOp}
 use Rattle.binaryop.specs.Leaves.{nothing}
 use Rattle.binaryop.proofs.Dispatch.{no-scalar}
-use Rattle.rows.proofs.Zipping.{same-zip}
+use Rattle.zipping.specs.Zipping.{same-zip}
 use Rattle.rows.proofs.apply_rows.Statement.{statement}
 use Rattle.rows.proofs.apply_rows.Tie as tie
 

@@ -1,4 +1,4 @@
-use Rattle.set_kernels.specs.Points.{meant}
+use Rattle.set_points.specs.Points.{meant}
 use Prim.Native.Nat.{_-_}
 use lib.ListN.{length}
 use Rattle.set_rules.proofs.Listing.{row-in, meets-row, LeftListing, left-starts, left-turn, left-length, left-ends}
@@ -8,7 +8,7 @@ use Rattle.set_rules.proofs.list_left.Tie as tie
 use Rattle.set_rules.proofs.list_left.Reads as reads
 use Rattle.set_rules.proofs.list_left.Lts as lts
 use Rattle.set_kernels.proofs.left_answers.Reads as left-answers-reads
-use Rattle.set_kernels.proofs.note_if.Reads as note-if-reads
+use Rattle.noting.proofs.note_if.Reads as note-if-reads
 use Rattle.timeseries.proofs.row.Reads as row-reads
 
 abbrev Inv-loop : tie.InvT-loop

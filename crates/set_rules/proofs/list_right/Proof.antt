@@ -6,7 +6,7 @@ use Rattle.set_rules.proofs.list_right.Statement.{statement}
 use Rattle.set_rules.proofs.list_right.Tie as tie
 use Rattle.set_rules.proofs.list_right.Reads as reads
 use Rattle.set_rules.proofs.list_right.Lts as lts
-use Rattle.set_kernels.proofs.note_if.Reads as note-if-reads
+use Rattle.noting.proofs.note_if.Reads as note-if-reads
 use Rattle.key_places.proofs.first_of.Reads as first-of-reads
 
 abbrev Inv-loop : tie.InvT-loop

@@ -2,7 +2,7 @@ use mathlib.Core.Bool.{false}
 use Prim.Native.Nat.{_-_}
 use lib.ListN.{length}
 use Rattle.answers.proofs.Rows.{RowsWriting, row-within, rows-turn, rows-length, rows-end}
-use Rattle.set_kernels.specs.Points.{meant}
+use Rattle.set_points.specs.Points.{meant}
 use Rattle.set_rules.specs.Sides.{rowSides, rowReadings}
 use Rattle.set_rules.proofs.Rows.{row-below, put-starts, from-fits, to-fits, bytes-fit, part-wide}
 use borrow.Author.Needs.{needs}

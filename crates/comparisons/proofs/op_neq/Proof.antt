@@ -1,0 +1,11 @@
+-- `op_neq` meets its contract, from those of its calls. Assumes nothing.
+use Rattle.model.specs.Reading.{holds}
+use Rattle.comparisons.proofs.op_neq.Statement.{statement}
+use Rattle.comparisons.proofs.op_neq.Tie as tie
+
+returns : tie.Need-returns
+unfolding holds
+returns c = cc
+
+pub op-neq-spec : {M : Type 1} → statement M
+op-neq-spec = tie.close (tie.spec (λ c κs. tt) returns)

@@ -1,0 +1,15 @@
+-- `to_comparison_value` meets its contract, from those of its calls. Assumes nothing.
+use mathlib.Core.Path.{_≡_}
+use mathlib.Core.Bool.{cond}
+use Rattle.comparisons.proofs.to_comparison_value.Statement.{statement}
+use Rattle.comparisons.proofs.to_comparison_value.Tie as tie
+
+returns : tie.Need-returns
+returns c = cc
+
+returns-2 : tie.Need-returns-2
+returns-2 c = cc
+
+pub to-comparison-value-spec : {M : Type 1} → statement M
+to-comparison-value-spec =
+    tie.close (tie.spec (λ c κs. tt) (λ c κs. tt) (λ c κs. tt) (λ c κs. tt) returns returns-2)

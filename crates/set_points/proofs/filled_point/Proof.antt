@@ -1,0 +1,10 @@
+-- `filled_point` meets its contract. Assumes nothing.
+use borrow.Author.Needs.{needs}
+use Rattle.set_points.proofs.Points.{filled-stays}
+use Rattle.set_points.proofs.filled_point.Statement.{statement}
+use Rattle.set_points.proofs.filled_point.Tie as tie
+
+pub filled-point-spec : {M : Type 1} → statement M
+filled-point-spec =
+    tie.close
+    (tie.spec (λ c κs. search needs) (λ c κs. search needs) (λ c κs. search needs) (λ c. cc) (λ c. search filled-stays))

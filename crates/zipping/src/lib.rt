@@ -1,0 +1,1 @@
+// Definitions and laws, in specs/. No code.
