@@ -6,7 +6,7 @@ import struct
 
 N = 0x7ff8000000000000
 ADD, AND, ATAN2, DIV, MUL, POW, OR, UNLESS = 0, 1, 2, 4, 7, 8, 17, 18
-ON, GROUP_LEFT, KEEP_NAMES = 1, 1, 1
+ON, GROUP_LEFT, GROUP_RIGHT, KEEP_NAMES = 1, 1, 2, 1
 ROOM = (65535, 8192)
 
 
@@ -27,6 +27,7 @@ def query(op, matching=0, join=0, flags=0, matching_list=names(), join_list=name
 
 
 def reading(x):
+    """The bits of a float; a whole number is bits already."""
     return x if isinstance(x, int) else struct.unpack('<Q', struct.pack('<d', x))[0]
 
 
@@ -41,7 +42,8 @@ def refused(number, first=0, second=0):
 
 
 def answer(points, *series):
-    return (0, len(series), points), (b''.join(labels for labels, row in series), [x for labels, row in series for x in row])
+    labels, readings = vector(points, *series)
+    return (0, len(series), points), (labels[6:], readings)
 
 
 BARE = record(b'')
@@ -69,20 +71,24 @@ def valued(lengths):
 
 def settled():
     yield ('two forms and one waste rate under group_left', query(MUL, ON, GROUP_LEFT, 0, names(b'press')),
-           vector(2, (record(b'fed', form='1', press='A'), [100., 200.]), (record(b'fed', form='2', press='A'), [300., N])),
+           vector(2, (record(b'fed', form='1', press='A'), [100., 200.]),
+                  (record(b'fed', form='2', press='A'), [300., N])),
            vector(2, (record(b'waste', press='A'), [0.5, 0.25])), ROOM,
            answer(2, (record(b'', form='1', press='A'), [50., 50.]), (record(b'', form='2', press='A'), [150., N])))
     yield ('[1,N,N] and [N,2,N] merge at p = 3, into the last', query(ADD, flags=KEEP_NAMES),
            vector(3, (record(b'u', press='A'), [N, 2., N]), (record(b'v', press='A'), [1., N, N])),
            vector(3, (A, [0., 0., 0.])), ROOM, answer(3, (record(b'v', press='A'), [1., 2., N])))
     yield 'the quotient of vecop', query(DIV), FED, WASTE, ROOM, QUOTIENT
-    yield '512 series', PLUS, vector(1, *numbered(512, 1.)), vector(1, *numbered(512, 2.)), ROOM, answer(1, *numbered(512, 3.))
+    yield ('512 series', PLUS, vector(1, *numbered(512, 1.)), vector(1, *numbered(512, 2.)), ROOM,
+           answer(1, *numbered(512, 3.)))
     yield '513 series', PLUS, vector(0, *[(BARE, [])] * 513), vector(0), ROOM, refused(3, 0, 0)
     yield '513 series on the right', PLUS, vector(0), vector(0, *[(BARE, [])] * 513), ROOM, refused(3, 1, 0)
-    yield '32 tags', PLUS, vector(1, (tags(32), [1.])), vector(1, (tags(32), [2.])), ROOM, answer(1, (tags(32), [3.]))
+    yield ('32 tags', PLUS, vector(1, (tags(32), [1.])), vector(1, (tags(32), [2.])), ROOM,
+           answer(1, (tags(32), [3.])))
     yield '33 tags', PLUS, vector(1, (tags(33), [1.])), vector(1, (tags(33), [2.])), ROOM, refused(3, 0, 0)
     yield '33 tags, second on the right', PLUS, ONE, vector(1, (BARE, [1.]), (tags(33), [2.])), ROOM, refused(3, 1, 1)
-    yield '1,024 points', PLUS, vector(1024, (A, [1.] * 1024)), vector(1024, (A, [2.] * 1024)), ROOM, answer(1024, (A, [3.] * 1024))
+    yield ('1,024 points', PLUS, vector(1024, (A, [1.] * 1024)), vector(1024, (A, [2.] * 1024)), ROOM,
+           answer(1024, (A, [3.] * 1024)))
     yield '1,025 points', PLUS, vector(1025, (A, [1.] * 1025)), vector(1025), ROOM, refused(3, 0, 0)
     yield '1,025 points on the right', PLUS, ONE, vector(1025), ROOM, refused(3, 1, 0)
 
@@ -92,11 +98,14 @@ def misreadings():
     yield 'and has no fallback', query(AND), vector(1, (A, [1.])), seven, ROOM, answer(1)
     yield 'unless has no fallback', query(UNLESS), vector(1, (A, [1.])), seven, ROOM, answer(1, (A, [1.]))
     yield ('* does not copy the name', query(ADD, ON, GROUP_LEFT, KEEP_NAMES, names(), names(b'*')),
-           vector(1, (record(b'm'), [1.])), vector(1, (record(b'n', b='y'), [2.])), ROOM, answer(1, (record(b'm', b='y'), [3.])))
+           vector(1, (record(b'm'), [1.])), vector(1, (record(b'n', b='y'), [2.])), ROOM,
+           answer(1, (record(b'm', b='y'), [3.])))
+    yield ('group_right divides the left by the right', query(DIV, ON, GROUP_RIGHT), vector(1, (BARE, [6.])),
+           vector(1, (A, [2.])), ROOM, answer(1, (A, [3.])))
 
 
 def faults():
-    """A vector with each fault in its second series, and its fields behind the side."""
+    """Each number of a vector, a vector with that fault, and its second field."""
     good = (BARE, [1.])
     yield 3, vector(1, good, (tags(33), [1.])), 1
     yield 4, vector(1, good, (record(b'', __name__='m'), [1.])), 1
@@ -106,7 +115,8 @@ def faults():
 def both_sides():
     for number, left, place in faults():
         for other, right, _ in faults():
-            yield f'{number} on the left before {other} on the right', PLUS, left, right, ROOM, refused(number, 0, place)
+            name = f'{number} on the left before {other} on the right'
+            yield name, PLUS, left, right, ROOM, refused(number, 0, place)
     for number, right, place in faults():
         yield f'{number} on the right alone', PLUS, ONE, right, ROOM, refused(number, 1, place)
         yield f'{number} on the right before 6', PLUS, vector(2, (A, [1., 1.])), right, ROOM, refused(number, 1, place)
@@ -125,22 +135,28 @@ def query_faults():
 def running():
     yield '6 before 7', PLUS, TWICE, vector(2, (BARE, [1., 1.])), ROOM, refused(6)
     yield '6 with both sides empty', PLUS, vector(0), vector(1), ROOM, refused(6)
-    yield '7: p = 2 does not merge', PLUS, vector(2, (A, [1., N]), (A, [N, 2.])), vector(2, (A, [1., 1.])), ROOM, refused(7, 1, 0)
+    yield ('7: p = 2 does not merge', PLUS, vector(2, (A, [1., N]), (A, [N, 2.])), vector(2, (A, [1., 1.])), ROOM,
+           refused(7, 1, 0))
     yield '7 before 8 of one key', PLUS, TWICE, TWICE, ROOM, refused(7, 1, 0)
     x, y = (record(b'', a='x'), [1.]), (record(b'', a='y'), [1.])
     yield '8 of an earlier key before 7', PLUS, vector(1, x, y, y), vector(1, x, x, y), ROOM, refused(8, 1, 0)
-    star = query(ADD, ON, GROUP_LEFT, 0, names(), names(b'*'))
+    # what a many-side series of 32 tags takes from z is a 33rd
+    group_left, group_right = (query(ADD, ON, join, 0, names(), names(b'*')) for join in (GROUP_LEFT, GROUP_RIGHT))
+    wide = vector(1, (tags(32), [1.]))
     z = (record(b'', z='1'), [1.])
-    yield '8 before 9', star, vector(1, (tags(32), [1.])), vector(1, z, z), (0, 0), refused(8, 0, 1)
-    yield '9: 33 tags, before 10', star, vector(1, (tags(32), [1.])), vector(1, z), (0, 0), refused(9)
+    yield '7 before 9', group_right, vector(1, z, z), wide, (0, 0), refused(7, 0, 1)
+    yield '8 before 9', group_left, wide, vector(1, z, z), (0, 0), refused(8, 0, 1)
+    yield '9: 33 tags, before 10', group_left, wide, vector(1, z), (0, 0), refused(9)
     many = vector(0, *[(BARE, [])] * 512)
     yield '9: 513 series, before 10', query(OR), many, vector(0, (A, [])), (0, 0), refused(9)
     yield ('511 series and one', query(OR), vector(0, *[(BARE, [])] * 511), vector(0, (A, [])), ROOM,
            answer(0, *[(BARE, [])] * 511, (A, [])))
     # a record {a=...} takes 5 bytes and its value
     join = query(ADD, ON, GROUP_LEFT, 0, names(), names(b'a'))
-    yield ('9: 65,536 label bytes, before 10', join, vector(1, *[(BARE, [1.])] * 16), valued([255] * 15 + [191]), (0, 0), refused(9))
-    yield '10: 65,535 label bytes', join, vector(1, *[(BARE, [1.])] * 15), valued([255] * 16 + [204]), (65534, 8192), refused(10)
+    yield ('9: 65,536 label bytes, before 10', join, vector(1, *[(BARE, [1.])] * 16), valued([255] * 15 + [191]),
+           (0, 0), refused(9))
+    yield ('10: 65,535 label bytes', join, vector(1, *[(BARE, [1.])] * 15), valued([255] * 16 + [204]),
+           (65534, 8192), refused(10))
     yield '10: one label byte short', query(DIV), FED, WASTE, (9, 8192), refused(10)
     yield '10: one reading short', query(DIV), FED, WASTE, (65535, 2), refused(10)
     yield 'an answer that just fits', query(DIV), FED, WASTE, (10, 3), QUOTIENT

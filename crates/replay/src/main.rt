@@ -53,6 +53,7 @@ fn number_at(s: &[u8], at: usize) -> usize
     if s.len() - at < 2 { 0 } else { pair_at(s, at) }
 }
 
+// The number in four bytes at a place.
 fn half_at(s: &[u8], at: usize) -> usize
     requires { ⌜ at + 4 ≤ length (now s) ⌝ }
     ensures { λ r. ⌜ r < 4294967296 ⌝ }
@@ -60,6 +61,7 @@ fn half_at(s: &[u8], at: usize) -> usize
     pair_at(s, at) + 65536 * pair_at(s, at + 2)
 }
 
+// The bits of the reading at a place.
 fn reading_at(s: &[u8], at: usize) -> u64
     requires { ⌜ at + 8 ≤ length (now s) ⌝ }
 {
@@ -96,7 +98,7 @@ fn part<'a>(s: &'a [u8], at: usize, size: usize) -> &'a [u8]
     &s[start..end]
 }
 
-// Puts the readings of a part at the start of an array, and answers how many they are.
+// Puts the readings of a part, as many as there is room for, at the start of an array, and answers how many.
 fn take_readings(bytes: &[u8], rows: &mut [u64]) -> usize
     ensures { λ r. ⌜ Counts r (now (rows .exit)) ⌝ }
 {
@@ -126,6 +128,7 @@ fn refusal(number: usize, first: usize, second: usize) -> Told {
     }
 }
 
+// An outcome in 01's numbers.
 fn numbers_of(outcome: Outcome) -> Told {
     match outcome {
         Outcome::Answer {
@@ -156,19 +159,19 @@ fn same_told(a: Told, b: Told) -> bool {
 }
 
 // What the output parts are filled with.
-const BYTE: u8 = 187;
+const FILL_BYTE: u8 = 187;
 
-const READING: u64 = 0xbbbb_bbbb_bbbb_bbbb;
+const FILL_READING: u64 = 0xbbbb_bbbb_bbbb_bbbb;
 
 fn byte_or_fill(want: &[u8], i: usize) -> u8 {
-    if i < want.len() { want[i] } else { BYTE }
+    if i < want.len() { want[i] } else { FILL_BYTE }
 }
 
 fn reading_or_fill(want: &[u8], i: usize) -> u64 {
     if i < want.len() / 8 {
         reading_at(want, 8 * i)
     } else {
-        READING
+        FILL_READING
     }
 }
 
@@ -214,8 +217,8 @@ fn comes_to<'a>(
     want_labels: &[u8],
     want_readings: &[u8],
 ) -> bool {
-    let mut labels = [BYTE; 65535];
-    let mut out = [READING; 8192];
+    let mut labels = [FILL_BYTE; 65535];
+    let mut out = [FILL_READING; 8192];
     let n = least(room.labels, 65535);
     let m = least(room.readings, 8192);
     let outcome = binop_vector_vector::exec_binop(
@@ -387,6 +390,14 @@ fn run_sample(s: &[u8]) {
     print(b" agree\n");
 }
 
+fn print_verdict(agrees: bool) {
+    if agrees {
+        print(b": agrees\n")
+    } else {
+        print(b": DIFFERS\n")
+    }
+}
+
 // Runs the example at a place, prints its name, and answers the place behind it.
 fn run_example(s: &[u8], at: usize) -> usize
     requires { ⌜ at ≤ length (now s) ⌝ }
@@ -403,14 +414,6 @@ fn run_example(s: &[u8], at: usize) -> usize
     print(part(s, at, 1));
     print_verdict(t.agrees);
     t.next
-}
-
-fn print_verdict(agrees: bool) {
-    if agrees {
-        print(b": agrees\n")
-    } else {
-        print(b": DIFFERS\n")
-    }
 }
 
 fn run_examples(s: &[u8]) {
