@@ -1,0 +1,191 @@
+#!/usr/bin/env python3
+"""Writes the files of crates/replay: the stored sample, and examples with what docs/01-scope.md says of them, each
+outcome written out here by hand. Run it in the repository."""
+import shutil
+import struct
+
+N = 0x7ff8000000000000
+ADD, AND, ATAN2, DIV, MUL, POW, OR, UNLESS = 0, 1, 2, 4, 7, 8, 17, 18
+ON, GROUP_LEFT, GROUP_RIGHT, KEEP_NAMES = 1, 1, 2, 1
+ROOM = (65535, 8192)
+
+
+def field(content):
+    return bytes([len(content)]) + content
+
+
+def record(name, **tags):
+    return field(name) + bytes([len(tags)]) + b''.join(field(k.encode()) + field(v.encode()) for k, v in tags.items())
+
+
+def names(*labels):
+    return bytes([len(labels)]) + b''.join(map(field, labels))
+
+
+def query(op, matching=0, join=0, flags=0, matching_list=names(), join_list=names()):
+    return bytes([op, matching, join, flags]) + matching_list + join_list
+
+
+def reading(x):
+    """The bits of a float; a whole number is bits already."""
+    return x if isinstance(x, int) else struct.unpack('<Q', struct.pack('<d', x))[0]
+
+
+def vector(points, *series):
+    """A label part and its readings, of series given as record and row."""
+    array = b''.join(labels for labels, row in series)
+    return struct.pack('<HHH', len(series), points, len(array)) + array, [x for labels, row in series for x in row]
+
+
+def refused(number, first=0, second=0):
+    return (number, first, second), None
+
+
+def answer(points, *series):
+    labels, readings = vector(points, *series)
+    return (0, len(series), points), (labels[6:], readings)
+
+
+BARE = record(b'')
+A = record(b'', press='A')
+PLUS = query(ADD)
+FED = vector(3, (record(b'fed', press='A'), [10., N, 6.]))
+WASTE = vector(3, (record(b'waste', press='A'), [2., 1., 3.]))
+QUOTIENT = answer(3, (A, [0x4014000000000000, 0x7ff8000000000000, 0x4000000000000000]))
+ONE = vector(1, (BARE, [1.]))
+TWICE = vector(1, (BARE, [1.]), (BARE, [1.]))
+
+
+def tags(n):
+    return record(b'', **{'k%02d' % i: 'v' for i in range(n)})
+
+
+def numbered(n, x):
+    return [(record(b'', k='%03d' % i), [x]) for i in range(n)]
+
+
+def valued(lengths):
+    """Series that differ in one tag's value, of such lengths."""
+    return vector(1, *[(record(b'', a='%02d' % i + '.' * (n - 2)), [1.]) for i, n in enumerate(lengths)])
+
+
+def settled():
+    yield ('two forms and one waste rate under group_left', query(MUL, ON, GROUP_LEFT, 0, names(b'press')),
+           vector(2, (record(b'fed', form='1', press='A'), [100., 200.]),
+                  (record(b'fed', form='2', press='A'), [300., N])),
+           vector(2, (record(b'waste', press='A'), [0.5, 0.25])), ROOM,
+           answer(2, (record(b'', form='1', press='A'), [50., 50.]), (record(b'', form='2', press='A'), [150., N])))
+    yield ('[1,N,N] and [N,2,N] merge at p = 3, into the last', query(ADD, flags=KEEP_NAMES),
+           vector(3, (record(b'u', press='A'), [N, 2., N]), (record(b'v', press='A'), [1., N, N])),
+           vector(3, (A, [0., 0., 0.])), ROOM, answer(3, (record(b'v', press='A'), [1., 2., N])))
+    yield 'the quotient of vecop', query(DIV), FED, WASTE, ROOM, QUOTIENT
+    yield ('512 series', PLUS, vector(1, *numbered(512, 1.)), vector(1, *numbered(512, 2.)), ROOM,
+           answer(1, *numbered(512, 3.)))
+    yield '513 series', PLUS, vector(0, *[(BARE, [])] * 513), vector(0), ROOM, refused(3, 0, 0)
+    yield '513 series on the right', PLUS, vector(0), vector(0, *[(BARE, [])] * 513), ROOM, refused(3, 1, 0)
+    yield ('32 tags', PLUS, vector(1, (tags(32), [1.])), vector(1, (tags(32), [2.])), ROOM,
+           answer(1, (tags(32), [3.])))
+    yield '33 tags', PLUS, vector(1, (tags(33), [1.])), vector(1, (tags(33), [2.])), ROOM, refused(3, 0, 0)
+    yield '33 tags, second on the right', PLUS, ONE, vector(1, (BARE, [1.]), (tags(33), [2.])), ROOM, refused(3, 1, 1)
+    yield ('1,024 points', PLUS, vector(1024, (A, [1.] * 1024)), vector(1024, (A, [2.] * 1024)), ROOM,
+           answer(1024, (A, [3.] * 1024)))
+    yield '1,025 points', PLUS, vector(1025, (A, [1.] * 1025)), vector(1025), ROOM, refused(3, 0, 0)
+    yield '1,025 points on the right', PLUS, ONE, vector(1025), ROOM, refused(3, 1, 0)
+
+
+def misreadings():
+    seven = vector(1, (BARE, [7.]))
+    yield 'and has no fallback', query(AND), vector(1, (A, [1.])), seven, ROOM, answer(1)
+    yield 'unless has no fallback', query(UNLESS), vector(1, (A, [1.])), seven, ROOM, answer(1, (A, [1.]))
+    yield ('* does not copy the name', query(ADD, ON, GROUP_LEFT, KEEP_NAMES, names(), names(b'*')),
+           vector(1, (record(b'm'), [1.])), vector(1, (record(b'n', b='y'), [2.])), ROOM,
+           answer(1, (record(b'm', b='y'), [3.])))
+    yield ('group_right divides the left by the right', query(DIV, ON, GROUP_RIGHT), vector(1, (BARE, [6.])),
+           vector(1, (A, [2.])), ROOM, answer(1, (A, [3.])))
+
+
+def faults():
+    """Each number of a vector, a vector with that fault, and its second field."""
+    good = (BARE, [1.])
+    yield 3, vector(1, good, (tags(33), [1.])), 1
+    yield 4, vector(1, good, (record(b'', __name__='m'), [1.])), 1
+    yield 5, vector(1, good, (A, [])), 0
+
+
+def both_sides():
+    for number, left, place in faults():
+        for other, right, _ in faults():
+            name = f'{number} on the left before {other} on the right'
+            yield name, PLUS, left, right, ROOM, refused(number, 0, place)
+    for number, right, place in faults():
+        yield f'{number} on the right alone', PLUS, ONE, right, ROOM, refused(number, 1, place)
+        yield f'{number} on the right before 6', PLUS, vector(2, (A, [1., 1.])), right, ROOM, refused(number, 1, place)
+
+
+def query_faults():
+    for number, left, place in faults():
+        yield f'1 before {number}', query(19), left, ONE, ROOM, refused(1)
+        yield f'2 before {number}', query(ADD, matching=3), left, ONE, ROOM, refused(2)
+    yield '1 before 2', query(19, matching=3), ONE, ONE, ROOM, refused(1)
+    yield 'atan2', query(ATAN2), ONE, ONE, ROOM, refused(1)
+    yield 'a power', query(POW), ONE, ONE, ROOM, refused(1)
+    yield 'a byte behind the query', PLUS + b'\0', ONE, ONE, ROOM, refused(2)
+
+
+def running():
+    yield '6 before 7', PLUS, TWICE, vector(2, (BARE, [1., 1.])), ROOM, refused(6)
+    yield '6 with both sides empty', PLUS, vector(0), vector(1), ROOM, refused(6)
+    yield ('7: p = 2 does not merge', PLUS, vector(2, (A, [1., N]), (A, [N, 2.])), vector(2, (A, [1., 1.])), ROOM,
+           refused(7, 1, 0))
+    yield '7 before 8 of one key', PLUS, TWICE, TWICE, ROOM, refused(7, 1, 0)
+    x, y = (record(b'', a='x'), [1.]), (record(b'', a='y'), [1.])
+    yield '8 of an earlier key before 7', PLUS, vector(1, x, y, y), vector(1, x, x, y), ROOM, refused(8, 1, 0)
+    # what a many-side series of 32 tags takes from z is a 33rd
+    group_left, group_right = (query(ADD, ON, join, 0, names(), names(b'*')) for join in (GROUP_LEFT, GROUP_RIGHT))
+    wide = vector(1, (tags(32), [1.]))
+    z = (record(b'', z='1'), [1.])
+    yield '7 before 9', group_right, vector(1, z, z), wide, (0, 0), refused(7, 0, 1)
+    yield '8 before 9', group_left, wide, vector(1, z, z), (0, 0), refused(8, 0, 1)
+    yield '9: 33 tags, before 10', group_left, wide, vector(1, z), (0, 0), refused(9)
+    many = vector(0, *[(BARE, [])] * 512)
+    yield '9: 513 series, before 10', query(OR), many, vector(0, (A, [])), (0, 0), refused(9)
+    yield ('511 series and one', query(OR), vector(0, *[(BARE, [])] * 511), vector(0, (A, [])), ROOM,
+           answer(0, *[(BARE, [])] * 511, (A, [])))
+    # a record {a=...} takes 5 bytes and its value
+    join = query(ADD, ON, GROUP_LEFT, 0, names(), names(b'a'))
+    yield ('9: 65,536 label bytes, before 10', join, vector(1, *[(BARE, [1.])] * 16), valued([255] * 15 + [191]),
+           (0, 0), refused(9))
+    yield ('10: 65,535 label bytes', join, vector(1, *[(BARE, [1.])] * 15), valued([255] * 16 + [204]),
+           (65534, 8192), refused(10))
+    yield '10: one label byte short', query(DIV), FED, WASTE, (9, 8192), refused(10)
+    yield '10: one reading short', query(DIV), FED, WASTE, (65535, 2), refused(10)
+    yield 'an answer that just fits', query(DIV), FED, WASTE, (10, 3), QUOTIENT
+
+
+def number(n):
+    return struct.pack('<H', n)
+
+
+def part(content):
+    return number(len(content)) + content
+
+
+def rows(readings):
+    return number(len(readings)) + b''.join(struct.pack('<Q', reading(x)) for x in readings)
+
+
+examples = [*settled(), *misreadings(), *both_sides(), *query_faults(), *running()]
+with open('crates/replay/data/examples.bin', 'wb') as f:
+    f.write(number(len(examples)))
+    for name, asked, left, right, room, (numbers, output) in examples:
+        f.write(part(name.encode()) + b''.join(map(number, room)) + part(asked))
+        f.write(part(left[0]) + rows(left[1]) + part(right[0]) + rows(right[1]) + b''.join(map(number, numbers)))
+        if output is not None:
+            f.write(part(output[0]) + rows(output[1]))
+sample = shutil.copyfile('oracle/sample/cases.bin', 'crates/replay/data/cases.bin')
+with open(sample, 'rb') as f:
+    count, = struct.unpack('<H', f.read(2))
+with open('crates/replay/stdout', 'w') as f:
+    f.write(f'{count} cases of the sample, {count} agree\n')
+    for name, *_ in examples:
+        f.write(f'{name}: agrees\n')
