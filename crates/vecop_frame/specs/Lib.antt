@@ -1,0 +1,4 @@
+pub mod Frames
+pub mod Sides
+pub mod SideLaws
+pub mod Found

@@ -1,0 +1,2 @@
+pub mod Vecop
+pub mod Examples

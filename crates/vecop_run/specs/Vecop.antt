@@ -1,0 +1,27 @@
+-- What the program `vecop` prints for an input. Assumes nothing.
+use Prim.Native.Nat.{ℕ}
+use mathlib.Core.List.{List}
+use Rattle.semantics.specs.Call.{Outcome, call}
+use Rattle.vecop_frame.specs.Frames.{Framed, unreadable, three, framed}
+use Rattle.vecop_frame.specs.Sides.{labelsIn, readingsIn}
+use Rattle.vecop_text.specs.Text.{unreadableText, printed}
+
+-- 01: Its output parts hold 65,535 label bytes and 8,192 readings.
+abbrev pub ran : List ℕ → List ℕ → List ℕ → List ℕ → List ℕ → Outcome
+ran query leftLabels leftReadings rightLabels rightReadings =
+    call query leftLabels leftReadings rightLabels rightReadings 65535 8192
+
+abbrev pub called : List ℕ → List ℕ → List ℕ → Outcome
+called query left right = ran query (labelsIn left) (readingsIn left) (labelsIn right) (readingsIn right)
+
+abbrev pub textOf : Framed → List ℕ
+textOf unreadable = unreadableText
+textOf (three query left right) = printed (called query left right)
+
+-- 01: `unreadable`, before any refusal
+abbrev pub vecopText : List ℕ → List ℕ
+vecopText input = textOf (framed input)
+
+-- room for every text: 49 bytes of the first line, 3 a label byte, 17 a reading
+abbrev pub maxText : ℕ
+maxText = 335918

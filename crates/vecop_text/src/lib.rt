@@ -1,0 +1,388 @@
+// What the program prints for an outcome, written into a lent buffer.
+use answers::Outcome;
+use label_edits::put_byte;
+use label_edits::put_bytes;
+use labels::Place;
+use metric_name::Next;
+use metric_name::Record;
+ghost use mathlib.Core.Path.{_≡_};
+ghost use mathlib.Core.List.{[], _∷_, _++_};
+ghost use Prim.Native.Nat.{_+_, _*_, _≤_, _<_};
+ghost use lib.ListN.{length, take, drop};
+ghost use Rattle.model.specs.Labels.{Tag};
+ghost use Rattle.label_edits.specs.Written.{Put};
+ghost use Rattle.metric_name.specs.Lenient.{tagsUpTo, labelsOf};
+ghost use Rattle.answers.specs.Outcomes.{told};
+ghost use Rattle.vecop_text.specs.Numerals.{digit, digits, digitCount, decimal, hexadecimal};
+ghost use Rattle.vecop_text.specs.Text.{isSpecial, isPlain, escaped, escapedAll, tagOf, tagText, moreTags, tagsText, bracedTags, labelsText, readingText, rowText, lineText, linesText, twoNumbers, answerText, refusalText, unreadableText};
+ghost use Rattle.vecop_text.specs.Told.{toldAs, toldText, Within};
+
+fn digit_of(d: u64) -> u8
+    requires { ⌜ d < 16 ⌝ }
+    ensures { λ r. ⌜ r ≡ digit d ⌝ }
+{
+    if d < 10 {
+        (48 + d) as u8
+    } else {
+        (87 + d) as u8
+    }
+}
+
+// Writes the last k digits of a number to a base, from the last to the first.
+fn put_digits(out: &mut [u8], at: usize, base: u64, k: usize, n: u64) -> usize
+    requires { ⌜ at + length (digits base k n) ≤ length (now out) ⌝ }
+    requires { ⌜ 1 < base ⌝ }
+    requires { ⌜ base ≤ 16 ⌝ }
+    ensures { λ r. ⌜ Put (now (out .entry)) at (digits base k n) (now (out .exit)) r ⌝ }
+{
+    let mut i = k;
+    let mut rest = n;
+    while 0 < i {
+        i -= 1;
+        let o = at + i;
+        out[o] = digit_of(rest % base);
+        rest /= base;
+    }
+    at + k
+}
+
+fn digit_count(n: usize) -> usize
+    ensures { λ r. ⌜ r ≡ digitCount 20 n ⌝ }
+{
+    let mut k: usize = 0;
+    let mut rest = n;
+    while k < 20 {
+        if rest < 10 {
+            return k + 1;
+        }
+        rest /= 10;
+        k += 1;
+    }
+    k
+}
+
+fn put_decimal(out: &mut [u8], at: usize, n: usize) -> usize
+    requires { ⌜ at + length (decimal n) ≤ length (now out) ⌝ }
+    ensures { λ r. ⌜ Put (now (out .entry)) at (decimal n) (now (out .exit)) r ⌝ }
+{
+    put_digits(out, at, 10, digit_count(n), n as u64)
+}
+
+fn is_special(b: u8) -> bool
+    ensures { λ r. ⌜ r ≡ isSpecial b ⌝ }
+{
+    match b {
+        b'"' | b'\\' | b'{' | b'}' | b',' | b'=' | b'%' => true,
+        _ => false,
+    }
+}
+
+fn is_plain(b: u8) -> bool
+    ensures { λ r. ⌜ r ≡ isPlain b ⌝ }
+{
+    if b < 0x21 {
+        return false;
+    }
+    if 0x7e < b {
+        return false;
+    }
+    !is_special(b)
+}
+
+fn put_percent(out: &mut [u8], at: usize, b: u8) -> usize
+    requires { ⌜ at + length (37 ∷ hexadecimal 2 b) ≤ length (now out) ⌝ }
+    ensures { λ r. ⌜ Put (now (out .entry)) at (37 ∷ hexadecimal 2 b) (now (out .exit)) r ⌝ }
+{
+    let o = put_byte(out, at, b'%');
+    put_digits(out, o, 16, 2, b as u64)
+}
+
+fn put_escaped(out: &mut [u8], at: usize, b: u8) -> usize
+    requires { ⌜ at + length (escaped b) ≤ length (now out) ⌝ }
+    ensures { λ r. ⌜ Put (now (out .entry)) at (escaped b) (now (out .exit)) r ⌝ }
+{
+    if is_plain(b) {
+        put_byte(out, at, b)
+    } else {
+        put_percent(out, at, b)
+    }
+}
+
+fn put_field(out: &mut [u8], at: usize, s: &[u8]) -> usize
+    requires { ⌜ at + length (escapedAll (now s)) ≤ length (now out) ⌝ }
+    ensures { λ r. ⌜ Put (now (out .entry)) at (escapedAll (now (s .entry))) (now (out .exit)) r ⌝ }
+{
+    let mut o = at;
+    let mut i: usize = 0;
+    while i < s.len() {
+        o = put_escaped(out, o, s[i]);
+        i += 1;
+    }
+    o
+}
+
+fn put_tag(out: &mut [u8], at: usize, key: &[u8], value: &[u8]) -> usize
+    requires { ⌜ at + length (tagText (tagOf (now key) (now value))) ≤ length (now out) ⌝ }
+    ensures { λ r. ⌜ Put (now (out .entry)) at (tagText (tagOf (now (key .entry)) (now (value .entry)))) (now (out .exit)) r ⌝ }
+{
+    let p = put_field(out, at, key);
+    let q = put_bytes(out, p, b"=\"");
+    let r = put_field(out, q, value);
+    put_byte(out, r, b'"')
+}
+
+fn put_next_tag(out: &mut [u8], at: usize, key: &[u8], value: &[u8]) -> usize
+    requires { ⌜ at + length ((44 ∷ []) ++ tagText (tagOf (now key) (now value))) ≤ length (now out) ⌝ }
+    ensures { λ r. ⌜ Put (now (out .entry)) at ((44 ∷ []) ++ tagText (tagOf (now (key .entry)) (now (value .entry)))) (now (out .exit)) r ⌝ }
+{
+    let o = put_byte(out, at, b',');
+    put_tag(out, o, key, value)
+}
+
+// The n tags at a place of a record, each behind a comma.
+fn put_more_tags(out: &mut [u8], at: usize, rec: &[u8], from: usize, n: usize) -> usize
+    requires { ⌜ at + length (moreTags (tagsUpTo n (drop from (now rec)))) ≤ length (now out) ⌝ }
+    ensures { λ r. ⌜ Put (now (out .entry)) at (moreTags (tagsUpTo n (drop from (now (rec .entry))))) (now (out .exit)) r ⌝ }
+{
+    let mut o = at;
+    let mut p = from;
+    let mut m = n;
+    loop {
+        let Next::Tag {
+            start: _,
+            key,
+            key_end,
+            end,
+            left,
+        } = metric_name::next_tag(rec, p, m)
+        else {
+            return o;
+        };
+        let value = key_end + 1;
+        o = put_next_tag(out, o, &rec[key..key_end], &rec[value..end]);
+        p = end;
+        m = left;
+    }
+}
+
+fn put_tags(out: &mut [u8], at: usize, rec: &[u8], from: usize, n: usize) -> usize
+    requires { ⌜ at + length (tagsText (tagsUpTo n (drop from (now rec)))) ≤ length (now out) ⌝ }
+    ensures { λ r. ⌜ Put (now (out .entry)) at (tagsText (tagsUpTo n (drop from (now (rec .entry))))) (now (out .exit)) r ⌝ }
+{
+    let Next::Tag {
+        start: _,
+        key,
+        key_end,
+        end,
+        left,
+    } = metric_name::next_tag(rec, from, n)
+    else {
+        return at;
+    };
+    let value = key_end + 1;
+    let o = put_tag(out, at, &rec[key..key_end], &rec[value..end]);
+    put_more_tags(out, o, rec, end, left)
+}
+
+fn put_name(out: &mut [u8], at: usize, rec: &[u8]) -> usize
+    requires { ⌜ at + length (escapedAll (labelsOf (now rec) .name)) ≤ length (now out) ⌝ }
+    ensures { λ r. ⌜ Put (now (out .entry)) at (escapedAll (labelsOf (now (rec .entry)) .name)) (now (out .exit)) r ⌝ }
+{
+    match labels::field_at(rec, 0) {
+        Place::At { start, end } => put_field(out, at, &rec[start..end]),
+        Place::Short => at,
+    }
+}
+
+fn put_braced(out: &mut [u8], at: usize, rec: &[u8]) -> usize
+    requires { ⌜ at + length (bracedTags (labelsOf (now rec) .tags)) ≤ length (now out) ⌝ }
+    ensures { λ r. ⌜ Put (now (out .entry)) at (bracedTags (labelsOf (now (rec .entry)) .tags)) (now (out .exit)) r ⌝ }
+{
+    let t = metric_name::tags_of(rec);
+    let from = t.at;
+    let n = t.count;
+    let o = put_byte(out, at, b'{');
+    let p = put_tags(out, o, rec, from, n);
+    put_byte(out, p, b'}')
+}
+
+fn put_labels(out: &mut [u8], at: usize, rec: &[u8]) -> usize
+    requires { ⌜ at + length (labelsText (labelsOf (now rec))) ≤ length (now out) ⌝ }
+    ensures { λ r. ⌜ Put (now (out .entry)) at (labelsText (labelsOf (now (rec .entry)))) (now (out .exit)) r ⌝ }
+{
+    let o = put_name(out, at, rec);
+    put_braced(out, o, rec)
+}
+
+fn put_reading(out: &mut [u8], at: usize, x: u64) -> usize
+    requires { ⌜ at + length (readingText x) ≤ length (now out) ⌝ }
+    ensures { λ r. ⌜ Put (now (out .entry)) at (readingText x) (now (out .exit)) r ⌝ }
+{
+    let o = put_byte(out, at, b' ');
+    put_digits(out, o, 16, 16, x)
+}
+
+fn put_row(out: &mut [u8], at: usize, row: &[u64]) -> usize
+    requires { ⌜ at + length (rowText (now row)) ≤ length (now out) ⌝ }
+    ensures { λ r. ⌜ Put (now (out .entry)) at (rowText (now (row .entry))) (now (out .exit)) r ⌝ }
+{
+    let mut o = at;
+    let mut i: usize = 0;
+    while i < row.len() {
+        o = put_reading(out, o, row[i]);
+        i += 1;
+    }
+    o
+}
+
+fn put_line(out: &mut [u8], at: usize, rec: &[u8], row: &[u64]) -> usize
+    requires { ⌜ at + length (lineText (labelsOf (now rec)) (now row)) ≤ length (now out) ⌝ }
+    ensures { λ r. ⌜ Put (now (out .entry)) at (lineText (labelsOf (now (rec .entry))) (now (row .entry))) (now (out .exit)) r ⌝ }
+{
+    let o = put_labels(out, at, rec);
+    let p = put_row(out, o, row);
+    put_byte(out, p, b'\n')
+}
+
+// A line a series: the records one behind another, and rows of p readings.
+fn put_lines(
+    out: &mut [u8],
+    at: usize,
+    n: usize,
+    p: usize,
+    labels: &[u8],
+    readings: &[u64],
+) -> usize
+    requires { ⌜ at + length (linesText n p (now labels) (now readings)) ≤ length (now out) ⌝ }
+    requires { ⌜ n * p ≤ length (now readings) ⌝ }
+    ensures { λ r. ⌜ Put (now (out .entry)) at (linesText n p (now (labels .entry)) (now (readings .entry))) (now (out .exit)) r ⌝ }
+{
+    let mut o = at;
+    let mut from: usize = 0;
+    let mut row: usize = 0;
+    let mut left = n;
+    while 0 < left {
+        match metric_name::read_record(labels, from) {
+            Record::Ok { next } => {
+                let end = row + p;
+                o = put_line(out, o, &labels[from..next], &readings[row..end]);
+                from = next;
+                row = end;
+                left -= 1;
+            }
+            Record::Cut => return o,
+            Record::BadKey => return o,
+        }
+    }
+    o
+}
+
+fn put_two(out: &mut [u8], at: usize, a: usize, b: usize) -> usize
+    requires { ⌜ at + length (twoNumbers a b) ≤ length (now out) ⌝ }
+    ensures { λ r. ⌜ Put (now (out .entry)) at (twoNumbers a b) (now (out .exit)) r ⌝ }
+{
+    let p = put_decimal(out, at, a);
+    let q = put_byte(out, p, b' ');
+    let r = put_decimal(out, q, b);
+    put_byte(out, r, b'\n')
+}
+
+fn put_answer(out: &mut [u8], n: usize, p: usize, labels: &[u8], readings: &[u64]) -> usize
+    requires { ⌜ length (answerText n p (now labels) (now readings)) ≤ length (now out) ⌝ }
+    requires { ⌜ n * p ≤ length (now readings) ⌝ }
+    ensures { λ r. ⌜ Put (now (out .entry)) 0 (answerText n p (now (labels .entry)) (now (readings .entry))) (now (out .exit)) r ⌝ }
+{
+    let o = put_bytes(out, 0, b"answer ");
+    let q = put_two(out, o, n, p);
+    put_lines(out, q, n, p, labels, readings)
+}
+
+fn put_refusal(out: &mut [u8], number: usize, a: usize, b: usize) -> usize
+    requires { ⌜ length (refusalText number a b) ≤ length (now out) ⌝ }
+    ensures { λ r. ⌜ Put (now (out .entry)) 0 (refusalText number a b) (now (out .exit)) r ⌝ }
+{
+    let o = put_bytes(out, 0, b"refused ");
+    let p = put_decimal(out, o, number);
+    let q = put_byte(out, p, b' ');
+    put_two(out, q, a, b)
+}
+
+// An outcome with 01's numbers.
+enum Told {
+    Answer {
+        series: usize,
+        points: usize,
+        bytes: usize,
+    },
+    Refusal {
+        number: usize,
+        first: usize,
+        second: usize,
+    },
+}
+
+fn told_as(x: Outcome) -> Told
+    ensures { λ r. ⌜ r ≡ toldAs (told x) ⌝ }
+{
+    match x {
+        Outcome::Answer {
+            series,
+            points,
+            bytes,
+        } => Told::Answer {
+            series,
+            points,
+            bytes,
+        },
+        Outcome::BadOperator => refusal(1, 0, 0),
+        Outcome::Malformed => refusal(2, 0, 0),
+        Outcome::Cut { side, place } => refusal(3, side, place),
+        Outcome::BadKey { side, place } => refusal(4, side, place),
+        Outcome::Readings { side } => refusal(5, side, 0),
+        Outcome::Unequal => refusal(6, 0, 0),
+        Outcome::LeftTwice { kept, failed } => refusal(7, kept, failed),
+        Outcome::RightTwice { kept, failed } => refusal(8, kept, failed),
+        Outcome::TooLarge => refusal(9, 0, 0),
+        Outcome::TooLong => refusal(10, 0, 0),
+    }
+}
+
+fn refusal(number: usize, first: usize, second: usize) -> Told
+    ensures { λ r. ⌜ r ≡ Told.Refusal number first second ⌝ }
+{
+    Told::Refusal {
+        number,
+        first,
+        second,
+    }
+}
+
+// Writes the text of an outcome, whose answer stands at the start of the output parts, and gives its length.
+pub fn put_outcome(out: &mut [u8], x: Outcome, labels: &[u8], readings: &[u64]) -> usize
+    requires { ⌜ Within (told x) (now labels) (now readings) ⌝ }
+    requires { ⌜ length (toldText (told x) (now labels) (now readings)) ≤ length (now out) ⌝ }
+    ensures { λ r. ⌜ Put (now (out .entry)) 0 (toldText (told x) (now (labels .entry)) (now (readings .entry))) (now (out .exit)) r ⌝ }
+{
+    match told_as(x) {
+        Told::Answer {
+            series,
+            points,
+            bytes,
+        } => {
+            let k = series * points;
+            put_answer(out, series, points, &labels[..bytes], &readings[..k])
+        }
+        Told::Refusal {
+            number,
+            first,
+            second,
+        } => put_refusal(out, number, first, second),
+    }
+}
+
+pub fn put_unreadable(out: &mut [u8]) -> usize
+    requires { ⌜ 11 ≤ length (now out) ⌝ }
+    ensures { λ r. ⌜ Put (now (out .entry)) 0 unreadableText (now (out .exit)) r ⌝ }
+{
+    put_bytes(out, 0, b"unreadable\n")
+}
