@@ -16,7 +16,7 @@ use Rattle.theorems.specs.Valid.{answers-are-valid}
 use Rattle.answers.specs.Outcomes.{told, wanted, labelsAfter, readingsAfter, startingWith, Ran}
 use Rattle.answers.specs.Outcomes as O
 use Rattle.answers.specs.declared.Outcome.{Outcome}
-use Rattle.binop_vector_vector.specs.Lent.{bytes-of, readings-of}
+use Rattle.keyed_sides.specs.Lent.{bytes-of, readings-of}
 use Rattle.label_edits.specs.Written.{Put}
 use Rattle.vecop_text.specs.Text.{answerText, refusalText, printed}
 use Rattle.vecop_text.specs.Told.{toldText, Within}
