@@ -1,0 +1,208 @@
+#!/usr/bin/env python3
+"""Writes crates/test_vecop/stdin and stdout: inputs of `vecop`, each after its length (3 bytes), and what docs/01-scope.md says that it
+prints for each, worked out by hand here. Run it in the repository."""
+import struct
+
+ADD, AND, DIV, OR, UNLESS = 0, 1, 4, 17, 18
+N = 0x7ff8000000000000
+
+
+def bits(x):
+    return N if x is None else struct.unpack('<Q', struct.pack('<d', x))[0]
+
+
+def field(content):
+    return bytes([len(content)]) + content
+
+
+def record(name, tags):
+    return field(name) + bytes([len(tags)]) + b''.join(field(k) + field(v) for k, v in tags)
+
+
+def labels(count, points, records):
+    array = b''.join(records)
+    return struct.pack('<HHH', count, points, len(array)) + array
+
+
+def words(rows):
+    return b''.join(struct.pack('<Q', bits(x)) for row in rows for x in row)
+
+
+def vector(points, *series):
+    return labels(len(series), points, [record(n, t) for n, t, _ in series]) + words([row for _, _, row in series])
+
+
+def listed(*names):
+    return bytes([len(names)]) + b''.join(field(n) for n in names)
+
+
+def query(operator, matching=0, join=0, flags=0, match_list=(), join_list=()):
+    return bytes([operator, matching, join, flags]) + listed(*match_list) + listed(*join_list)
+
+
+def frame(*parts):
+    return b''.join(struct.pack('<I', len(part)) + part for part in parts)
+
+
+CASES = []
+
+
+def case(given, text):
+    CASES.append((given, text if isinstance(text, bytes) else text.encode()))
+
+
+def refused(given, number, first=0, second=0):
+    case(given, f'refused {number} {first} {second}\n')
+
+
+def unreadable(given):
+    case(given, 'unreadable\n')
+
+
+FED = vector(3, (b'fed', [(b'press', b'A')], [10, None, 6]))
+WASTE = vector(3, (b'waste', [(b'press', b'A')], [2, 1, 3]))
+ONE = '3ff0000000000000'
+TWO = '4000000000000000'
+GAP = '7ff8000000000000'
+NOTHING = vector(1)
+SINGLE = vector(1, (b'', [], [1]))
+
+# 01's example
+case(frame(query(DIV), FED, WASTE), 'answer 1 3\n{press="A"} 4014000000000000 7ff8000000000000 4000000000000000\n')
+
+# several series: left places, then right; set rules edit no labels. Names and tags with every byte that is escaped, and those beside the
+# ends of 21 to 7e; an empty value; a series without name and tags
+case(
+    frame(
+        query(OR),
+        vector(
+            2,
+            (b'a"\\{},=%z', [(b'\x1f \xff', b''), (b' !', b'~\x7f')], [1, None]),
+            (b'', [(b'k', b'caf\xc3\xa9\n')], [2, 1]),
+        ),
+        vector(2, (b'right', [(b'k', b'0')], [None, None]), (b'', [], [1, 1]), (b'm', [(b'k', b'caf\xc3\xa9\n')], [1, 1])),
+    ),
+    'answer 4 2\n'
+    f'a%22%5c%7b%7d%2c%3d%25z{{%1f%20%ff="",%20!="~%7f"}} {ONE} {GAP}\n'
+    f'{{k="caf%c3%a9%0a"}} {TWO} {ONE}\n'
+    f'right{{k="0"}} {GAP} {GAP}\n'
+    f'{{}} {ONE} {ONE}\n',
+)
+
+# no series; no points
+case(frame(query(AND), SINGLE, NOTHING), 'answer 0 1\n')
+case(frame(query(OR), vector(0, (b'x', [], [])), vector(0)), 'answer 1 0\nx{}\n')
+
+# a reading passed through keeps its bits, N too
+case(
+    frame(query(OR), labels(1, 2, [record(b'x', [])]) + struct.pack('<QQ', 0xfff0123456789abc, 0x8000000000000000), vector(2)),
+    'answer 1 2\nx{} fff0123456789abc 8000000000000000\n',
+)
+
+# numbers 1 and 2
+refused(frame(query(19), SINGLE, SINGLE), 1)
+refused(frame(query(2), b'', b''), 1)
+refused(frame(b'', SINGLE, SINGLE), 2)
+refused(frame(query(ADD) + b'\0', b'', b''), 2)
+
+# number 3: sizes cut, 513 series, 1,025 points, a label array shorter than stated, a record cut, 33 tags, label bytes left over
+refused(frame(query(ADD), b'', b''), 3)
+refused(frame(query(ADD), SINGLE[:5], b''), 3)
+refused(frame(query(ADD), SINGLE, SINGLE[:5]), 3, 1)
+refused(frame(query(ADD), labels(513, 0, [record(b'', [])] * 513), NOTHING), 3)
+refused(frame(query(ADD), NOTHING, labels(0, 1025, [])), 3, 1)
+refused(frame(query(ADD), struct.pack('<HHH', 1, 0, 3) + record(b'', []), NOTHING), 3)
+refused(frame(query(ADD), NOTHING, labels(2, 1, [record(b'', []), b'\1'])), 3, 1, 1)
+refused(frame(query(ADD), labels(1, 0, [record(b'', [(b'k%02d' % i, b'') for i in range(33)])]), NOTHING), 3)
+refused(frame(query(ADD), labels(2, 0, [record(b'', [])] * 3), NOTHING), 3, 0, 2)
+
+# number 4, and 3 before it in another record
+refused(frame(query(ADD), NOTHING, labels(1, 0, [record(b'', [(b'', b'v')])])), 4, 1)
+refused(frame(query(ADD), labels(2, 0, [record(b'', []), record(b'', [(b'b', b''), (b'a', b'')])]), b''), 4, 0, 1)
+refused(frame(query(ADD), labels(1, 0, [record(b'', [(b'__name__', b'')])]), b''), 4)
+
+# number 5: bytes not 8 times n times p, by whole readings and by single bytes, where that is 0 too; after 3 and 4 of the side, before
+# the right side's
+refused(frame(query(ADD), SINGLE + b'\0', SINGLE), 5)
+refused(frame(query(ADD), SINGLE[:-1], SINGLE), 5)
+refused(frame(query(ADD), SINGLE + bytes(8), SINGLE), 5)
+refused(frame(query(ADD), SINGLE[:-8], SINGLE), 5)
+refused(frame(query(ADD), SINGLE, SINGLE + bytes(9)), 5, 1)
+refused(frame(query(ADD), SINGLE, SINGLE[:-3]), 5, 1)
+refused(frame(query(ADD), NOTHING + b'\0\0\0', NOTHING), 5)
+refused(frame(query(ADD), NOTHING + bytes(8), NOTHING), 5)
+refused(frame(query(ADD), NOTHING, vector(0, (b'x', [], [])) + b'\0'), 5, 1)
+refused(frame(query(ADD), labels(1, 1, [record(b'', [(b'', b'v')])]) + b'\0', b''), 4)
+refused(frame(query(ADD), SINGLE + b'\0', b''), 5)
+
+# number 6, empty sides included
+refused(frame(query(ADD), SINGLE, FED), 6)
+refused(frame(query(OR), vector(1), vector(2)), 6)
+
+# 7 and 8: p is at most 2, so a merge is refused; the last is kept
+TWICE = vector(2, (b'a', [], [1, None]), (b'b', [], [None, 1]))
+refused(frame(query(ADD), TWICE, vector(2, (b'', [], [1, 1]))), 7, 1)
+refused(frame(query(ADD), vector(2, (b'', [], [1, 1])), TWICE), 8, 1)
+
+# 9: 600 series
+MANY = [(b'', [(b'k', b'%03d' % i)], []) for i in range(600)]
+refused(frame(query(OR), vector(0, *MANY[:300]), vector(0, *MANY[300:])), 9)
+case(
+    frame(query(OR), vector(0, *MANY[:256]), vector(0, *MANY[256:512])),
+    'answer 512 0\n' + ''.join('{k="%03d"}\n' % i for i in range(512)),
+)
+
+# 10: each of 3 many-side series with each of 3 one-side series, 9 rows of 1,024
+JOINED = query(ADD, 1, 1, 0, (b'none',), (b'r',))
+WIDE = [1] * 1024
+refused(
+    frame(
+        JOINED,
+        vector(1024, *[(b'', [(b'l', b'%d' % i)], WIDE) for i in range(3)]),
+        vector(1024, *[(b'', [(b'r', b'%d' % i)], WIDE) for i in range(3)]),
+    ),
+    10,
+)
+
+# nothing, lengths cut, parts cut, a byte after the third part
+unreadable(b'')
+unreadable(b'\0\0\0')
+unreadable(frame(query(ADD)))
+unreadable(frame(query(ADD), SINGLE))
+unreadable(frame(query(ADD), SINGLE, SINGLE)[:-1])
+unreadable(frame(query(ADD), SINGLE) + b'\0\0\0')
+unreadable(frame(query(ADD), SINGLE) + b'\1\0\0\0')
+unreadable(frame(query(ADD), SINGLE) + b'\xff\xff\xff\xff')
+unreadable(struct.pack('<I', 7) + query(ADD))
+unreadable(frame(query(ADD), SINGLE, SINGLE) + b'\0')
+
+# `unreadable` before any refusal
+unreadable(frame(query(19), b'', b'') + b'\0')
+
+
+def largest(size):
+    """An input of so many bytes: six left series that the right one meets, and one that it does not."""
+    def made(name):
+        met = [(b'', [(b'k', b'a')], [2] * 1000)] * 6
+        return frame(
+            query(UNLESS, 1, 0, 0, (b'k',)),
+            vector(1000, *met, (name, [(b'k', b'b')], [1] * 1000)),
+            vector(1000, (b'', [(b'k', b'a'), *((b'x%d' % i, b'v' * 250) for i in range(5))], [1] * 1000)),
+        )
+    need = size - len(made(b''))
+    assert 0 <= need <= 255, need
+    given = made(b'n' * need)
+    assert len(given) == size
+    return given, b'n' * need
+
+
+GIVEN, NAME = largest(65536)
+case(GIVEN, 'answer 1 1000\n' + NAME.decode() + '{k="b"}' + f' {ONE}' * 1000 + '\n')
+unreadable(largest(65537)[0])
+
+with open('crates/test_vecop/stdin', 'wb') as out:
+    for given, _ in CASES:
+        out.write(struct.pack('<I', len(given))[:3] + given)
+with open('crates/test_vecop/stdout', 'wb') as out:
+    for _, text in CASES:
+        out.write(text)
