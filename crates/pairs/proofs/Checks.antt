@@ -1,5 +1,5 @@
 -- Which left places pair, and the merges of their sides. Assumes nothing.
-use Prim.Native.Nat.{ℕ, suc, _+_, _*_, _≤_, _<_}
+use Prim.Native.Nat.{ℕ, suc, _+_, _-_, _*_, _≤_, _<_}
 use mathlib.Core.Path.{_≡_, refl, sym, ap, _∙_}
 use mathlib.Core.Bool.{Bool, true, false, not, _&&_, cond}
 use mathlib.Core.Option.{Option, none, some}
@@ -7,9 +7,10 @@ use mathlib.Core.List.{List, [], _∷_}
 use native.Mathlib.Numerals.{add-one}
 use native.Mathlib.Omega.{arith}
 use lib.Dec.{eqb, ltb}
-use lib.ListN.{length, getD, take, drop, drop-of-length-le}
+use lib.ListN.{length, getD, take, drop, length-drop, drop-of-length-le}
 use lib.Seq.{drop-cons, length-take-le}
-use borrow.Author.Tests.{eq-eqb, ne-eqb, eqb-true, ltb-true, not-true}
+use borrow.Author.Tests.{eq-eqb, ne-eqb, eqb-true, ltb-true, ltb-false, not-true}
+use Rattle.model.specs.Row.{overwritten, merged}
 use Rattle.model.specs.Query as Model
 use Rattle.model.specs.Laws.Booleans.{both-of}
 use Rattle.semantics.specs.Events.{Duplicate}
@@ -20,8 +21,10 @@ use Rattle.plan.specs.Conclude.{orElse}
 use Rattle.plan.specs.Pairs.{Sides, isPair, pairClash, pairsClash}
 use Rattle.merging.specs.declared.Merges.{Merges}
 use Rattle.merging.specs.declared.Merges.the-variants.{Done, FailedAt}
-use Rattle.merging.specs.Groups.{mergesTo, MergedGroup}
-use Rattle.merging.specs.Laws.{first-places, last-places, single-row}
+use Rattle.merge.specs.Merging.{mergedIf}
+use Rattle.answers.proofs.Rows.{row-in}
+use Rattle.merging.specs.Groups.{Ends, mergesTo, MergedGroup}
+use Rattle.merging.specs.Laws.{first-places, last-places, single-row, none-among, first-last, ends-within, several, several-merged}
 use Rattle.pairs.specs.declared.Checked.{Checked}
 use Rattle.pairs.specs.declared.Checked.the-variants as C
 use Rattle.pairs.specs.Pairing.{sidesOf, Level, PairSides, failureOf, failedIn, clashIn, clashAt}
@@ -50,11 +53,51 @@ module _ (ks ms : List ℕ) (k i : ℕ) where
     pub pair-right : firstOf ms k < length ms
     pair-right = ltb-true (firstOf ms k) (length ms) (tests .1)
 
+-- `ensure_merges`
+
+module _ (allowance p : ℕ) (rows keys : List ℕ) (k first last : ℕ) (level : Level p rows keys) (e : Ends keys k first last) where
+  last-in : last < length keys
+  last-in = ends-within allowance p rows k keys first last e
+
+  pub last-there : last * p + p ≤ length rows
+  last-there = omega (arith, row-in last (length keys) p last-in, level .whole)
+
+  pub first-there : first * p + p ≤ length rows
+  first-there = omega (arith, row-in first (length keys) p (e .stands), level .whole)
+
+  pub last-inside : last ≤ length keys
+  last-inside = omega (arith, last-in)
+
+  pub key-there : firstOf keys k < length keys
+  key-there = rw (← e .first-place) (e .stands)
+
+  module _ (h : first < last) (m : Bool) (hm : mergedIf m (rowAt p rows last) (rowAt p rows first) ≡ merged allowance (rowAt p rows last) (rowAt p rows first)) where
+    pub first-fails : m ≡ false → some first ≡ failureOf (mergeLast allowance p rows keys k)
+    first-fails f = rw (several allowance p rows k keys first last e h, ← hm, f)
+
+    pub two-merge : m ≡ true → (r : Bool) → r ≡ ltb (firstOf (take (last - (first + 1)) (drop (first + 1) keys)) k) (last - (first + 1)) → r ≡ false → none ≡ failureOf (mergeLast allowance p rows keys k)
+    two-merge t r hr f = rw (several-merged allowance p rows k keys first last e h (rw t at hm), none-among allowance p rows k between (suc first) (overwritten (rowAt p rows last) (rowAt p rows first)) none-between)
+      where
+        between : List ℕ
+        between = take (last - suc first) (drop (suc first) keys)
+
+        long : length between ≡ last - suc first
+        long = length-take-le (last - suc first) (drop (suc first) keys) (omega (arith, last-in, length-drop (suc first) keys))
+
+        none-between : length between ≤ firstOf between k
+        none-between = rw long (ltb-false (firstOf between k) (last - suc first) (sym (rw (← add-one first) hr) ∙ f))
+
 -- `ensure_single_timeseries`
 
-module _ (allowance p : ℕ) (rows keys : List ℕ) (k : ℕ) where
-  pub single-fine : (r : Bool) → r ≡ eqb (firstOf keys k) (lastOf keys k) → r ≡ true → none ≡ failureOf (mergeLast allowance p rows keys k)
-  single-fine r hr h = rw (single-row allowance p rows k keys (eqb-true (firstOf keys k) (lastOf keys k) (sym hr ∙ h)))
+module _ (keys : List ℕ) (k : ℕ) (h : firstOf keys k < length keys) (first last : ℕ) (hf : first ≡ Places.firstOf keys k) (hl : last ≡ Places.lastOf keys k) where
+  pub ends-found : Ends keys k first last
+  ends-found = record { first-place = hf ∙ first-places k keys; last-place = hl ∙ last-places k keys; stands = rw (hf, first-places k keys) h }
+
+pub single-fine : (allowance p : ℕ) (rows keys : List ℕ) (k : ℕ) → firstOf keys k < length keys → (first last : ℕ) → first ≡ Places.firstOf keys k → last ≡ Places.lastOf keys k → last ≤ first → none ≡ failureOf (mergeLast allowance p rows keys k)
+single-fine allowance p rows keys k h first last hf hl le =
+    let e = ends-found keys k h first last hf hl in
+    let same : firstOf keys k ≡ lastOf keys k = omega (arith, first-last allowance p rows k keys h, e .first-place, e .last-place, le) in
+    rw (single-row allowance p rows k keys same)
 
 same-failure : (r : Merges) (d : List ℕ) → failedIn r ≡ failureOf (mergesTo r d)
 same-failure Done d = refl

@@ -16,6 +16,7 @@ ghost use Rattle.semantics.specs.Binop.{adjustBinaryOpTags};
 ghost use Rattle.plan.specs.Keys.{firstOf};
 ghost use Rattle.plan.specs.Merging.{mergeLast};
 ghost use Rattle.plan.specs.Pairs.{isPair, pairClash, pairsClash, pairsFrom};
+ghost use Rattle.merging.specs.Groups.{Ends};
 ghost use Rattle.answers.specs.Tallies.{TallyOf, recordsOf};
 ghost use Rattle.pairs.specs.Edits.{queryBy, keepsName, InOrder, pairLabels};
 ghost use Rattle.pairs.specs.Pairing.{sidesOf, Level, PairSides, LeftLabels, PlacesIn, failureOf, failedIn, clashIn, clashAt, pairAt, LabelsPut};
@@ -97,6 +98,31 @@ fn try_last(
     merging::merge_last(rows, keys, k, allowance, &mut work[..p])
 }
 
+// Whether several series of a key become a single one: the first is tried on the last with no copy, and only where others stand between them are all merged in a work row.
+fn ensure_merges(
+    rows: &[u64],
+    keys: &[usize],
+    k: usize,
+    first: usize,
+    last: usize,
+    p: usize,
+    allowance: usize,
+) -> Merges
+    requires { ⌜ Level p (now rows) (now keys) ⌝ }
+    requires { ⌜ Ends (now keys) k first last ⌝ }
+    requires { ⌜ first < last ⌝ }
+    ensures { λ r. ⌜ failedIn r ≡ failureOf (mergeLast allowance p (now (rows .entry)) (now (keys .entry)) k) ⌝ }
+{
+    if merging::row_merges(rows, p, last, first, allowance) {
+        if merging::stands_between(keys, k, first + 1, last) {
+            let mut work = [0u64; 1024];
+            return try_last(rows, keys, k, p, allowance, &mut work);
+        }
+        return Merges::Done;
+    }
+    Merges::FailedAt(first)
+}
+
 // Whether the series of a key on one side become a single one.
 fn ensure_single_timeseries(
     rows: &[u64],
@@ -109,11 +135,12 @@ fn ensure_single_timeseries(
     requires { ⌜ firstOf (now keys) k < length (now keys) ⌝ }
     ensures { λ r. ⌜ failedIn r ≡ failureOf (mergeLast allowance p (now (rows .entry)) (now (keys .entry)) k) ⌝ }
 {
-    if merging::is_single(keys, k) {
-        return Merges::Done;
+    let first = key_places::first_of(keys, k);
+    let last = key_places::last_of(keys, k);
+    if first < last {
+        return ensure_merges(rows, keys, k, first, last, p, allowance);
     }
-    let mut work = [0u64; 1024];
-    try_last(rows, keys, k, p, allowance, &mut work)
+    Merges::Done
 }
 
 // What the merges of both sides of a pair come to.
