@@ -53,6 +53,12 @@ module _ (k : ℕ) where
       (λ e. rw e (omega arith))
       (λ e. rw e (let h = ltb-false (Places.lastOf keys k) (length keys) e in omega (arith, h, Places.last-within isKey keys))))
 
+  pub first-most : (keys : List ℕ) → firstOf keys k ≤ length keys
+  first-most keys = rw (← first-places keys) (Places.first-within isKey keys)
+
+  pub last-most : (keys : List ℕ) → lastOf keys k ≤ length keys
+  last-most keys = rw (← last-places keys) (Places.last-within isKey keys)
+
   -- a key that stands somewhere stands at its first and at its last place
 
   module _ (keys : List ℕ) (h : firstOf keys k < length keys) where
