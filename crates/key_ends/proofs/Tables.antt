@@ -225,5 +225,5 @@ module _ (lkeys rkeys : List ℕ) where
           go j l true y = let z : j ≡ i = eqb-true j i y in rw z (getD-set-same ends i v 0 joining-room ∙ told)
           go j l false y = let z = eqb-false j i y in getD-set-other ends i j v 0 z ∙ inv .each j (less j i l z)
 
-    pub joining-ends : length lkeys ≤ i → PairEnds lkeys rkeys ends
-    joining-ends h = record { room = inv .room; each = λ j l. inv .each j (omega (arith, l)) }
+    pub joining-ends : length lkeys ≤ 512 → length rkeys ≤ 512 → length lkeys ≤ i → PairEnds lkeys rkeys ends
+    joining-ends fewl fewr h = record { left-few = fewl; right-few = fewr; room = inv .room; each = λ j l. inv .each j (omega (arith, l)) }

@@ -3,7 +3,7 @@ ghost use mathlib.Core.Path.{_≡_};
 ghost use Prim.Native.Nat.{_+_, _*_, _≤_, _<_};
 ghost use lib.ListN.{length, getD};
 ghost use Rattle.plan.specs.Keys.{firstOf, lastOf};
-ghost use Rattle.key_ends.specs.Codes.{noted, Table, endsCode, SideEnds, PairEnds};
+ghost use Rattle.key_ends.specs.Codes.{noted, Table, endsCode, SideEnds, PairEnds, leftFirst, leftLast, rightFirst, rightLast};
 
 // Notes a place in the table at a key's number; a number that the table has no room for is not noted.
 fn note(table: &mut [usize], k: usize, i: usize)
@@ -71,13 +71,7 @@ fn ends_at(keys: &[usize], firsts: &[usize], lasts: &[usize], k: usize) -> usize
 }
 
 // The places of each key that is asked for.
-fn put_ends(
-    keys: &[usize],
-    firsts: &[usize],
-    lasts: &[usize],
-    asked: &[usize],
-    ends: &mut [usize],
-)
+fn put_ends(keys: &[usize], firsts: &[usize], lasts: &[usize], asked: &[usize], ends: &mut [usize])
     requires { ⌜ length (now keys) ≤ 512 ⌝ }
     requires { ⌜ Table (firstOf (now keys)) (now firsts) ⌝ }
     requires { ⌜ Table (lastOf (now keys)) (now lasts) ⌝ }
@@ -130,4 +124,32 @@ pub fn pair_ends(lkeys: &[usize], rkeys: &[usize], ends: &mut [usize])
     side_ends(lkeys, lkeys, ends);
     side_ends(rkeys, lkeys, &mut right);
     join_ends(lkeys, rkeys, &right, ends);
+}
+
+// The first left place of a code.
+pub fn left_first(c: usize) -> usize
+    ensures { λ r. ⌜ r ≡ leftFirst c ⌝ }
+{
+    c / 1073741824
+}
+
+// The last left place of a code.
+pub fn left_last(c: usize) -> usize
+    ensures { λ r. ⌜ r ≡ leftLast c ⌝ }
+{
+    c / 1048576 % 1024
+}
+
+// The first right place of a code.
+pub fn right_first(c: usize) -> usize
+    ensures { λ r. ⌜ r ≡ rightFirst c ⌝ }
+{
+    c / 1024 % 1024
+}
+
+// The last right place of a code.
+pub fn right_last(c: usize) -> usize
+    ensures { λ r. ⌜ r ≡ rightLast c ⌝ }
+{
+    c % 1024
 }

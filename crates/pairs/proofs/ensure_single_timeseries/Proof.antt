@@ -1,5 +1,5 @@
 -- `ensure_single_timeseries` meets its contract. Assumes nothing.
-use Rattle.pairs.proofs.Checks.{ends-found, single-fine}
+use Rattle.pairs.proofs.Checks.{single-fine}
 use borrow.Author.Needs.{needs}
 use Rattle.pairs.proofs.ensure_single_timeseries.Statement.{statement}
 use Rattle.pairs.proofs.ensure_single_timeseries.Tie as tie
@@ -9,7 +9,5 @@ ensure-single-timeseries-spec =
     tie.close
     (tie.spec
     (λ c κs. search needs)
-    (λ c κs. search needs)
-    (λ c κs. (search needs, (search ends-found, search needs)))
     (λ c. search needs)
     (λ c. search single-fine))
