@@ -1,21 +1,23 @@
 -- Merging: a turn and the end of each of its loops, and what it answers by what the tests found. Assumes nothing.
 use mathlib.Core.Path.{_≡_, refl, sym, _∙_}
-use mathlib.Core.Bool.{Bool, true, false, cond, _||_}
+use mathlib.Core.Bool.{Bool, true, false, not, cond, _||_}
+use mathlib.Core.Option.{Option, none, some}
 use mathlib.Core.List.{List, [], _∷_, _++_, append-nil}
 use Prim.Native.Nat.{ℕ, suc, _+_, _-_, _≤_, _<_}
 use native.Mathlib.Nat.{le-refl}
 use native.Mathlib.Numerals.{add-one}
 use native.Mathlib.Omega.{arith}
 use lib.Bits.{bitOr}
+use lib.Dec.{leb, ltb}
 use lib.ListN.{length, getD, drop, take, set, length-set, drop-of-length-le}
 use lib.Seq.{drop-cons, take-suc-set, drop-set-lt, append-snoc, take-all}
-use borrow.Author.Tests.{eq-eqb, ne-eqb, le-leb, lt-leb, lt-ltb, le-ltb}
+use borrow.Author.Tests.{eq-eqb, ne-eqb, le-leb, lt-leb, leb-true, leb-false, lt-ltb, le-ltb}
 use Rattle.model.specs.Reading.{missing}
 use Rattle.model.specs.Row.{overlaps, overwritten, merged}
 use Rattle.merge.specs.declared.Merged.{Merged}
 use Rattle.merge.specs.declared.Merged.the-variants.{Done, Overlapping, Unequal}
 use Rattle.reading.specs.Gaps.{gapOf}
-use Rattle.merge.specs.Merging.{bothOf, sourceFirst, MergedAs, mergedAlone}
+use Rattle.merge.specs.Merging.{bothOf, sourceFirst, mergedIf, MergedAs, mergedAlone}
 
 -- 1 where both are readings
 
@@ -137,3 +139,55 @@ module _ (allowance : ℕ) (d s : List ℕ) where
       pub merges : overlaps d s ≤ allowance → MergedAs allowance d s Done (overwritten d s)
       unfolding mergedAlone merged
       merges h = record { answer = simp (eq-eqb _ _ same, lt-leb _ _ long, le-ltb _ _ h); left = simp (eq-eqb _ _ same, lt-leb _ _ long, le-ltb _ _ h) }
+
+-- whether a merge succeeds
+
+not-more : (m n : ℕ) → (b : Bool) → leb m n ≡ b → ltb n m ≡ not b
+not-more m n true h = le-ltb n m (leb-true m n h)
+not-more m n false h = lt-ltb n m (leb-false m n h)
+
+module _ (allowance : ℕ) (d s : List ℕ) where
+  pub short-unmerged : length d ≤ 2 → mergedIf false d s ≡ merged allowance d s
+  unfolding merged
+  short-unmerged h = rw (le-leb (length d) 2 h)
+
+  pub long-merged : 2 < length d → (n : ℕ) → n ≡ overlaps d s → mergedIf (leb n allowance) d s ≡ merged allowance d s
+  unfolding merged
+  long-merged h n e = rw (lt-leb (length d) 2 h, e, not-more (overlaps d s) allowance (leb (overlaps d s) allowance) refl) (go (leb (overlaps d s) allowance))
+    where
+      go : (b : Bool) → mergedIf b d s ≡ cond (not b) none (some (overwritten d s))
+      go true = refl
+      go false = refl
+
+-- overwriting, into a third row
+
+-- i places are written: what is written, then what is left, overwritten, is the whole
+pub record Laying (d s out : List ℕ) (i : ℕ) : Type 0 where
+  pub long : length out ≡ length d
+  pub same : length s ≡ length d
+  pub within : i ≤ length out
+  pub rest : take i out ++ overwritten (drop i d) (drop i s) ≡ overwritten d s
+
+module _ (d s : List ℕ) where
+  pub laying-starts : (out : List ℕ) → length d ≡ length out → length s ≡ length out → Laying d s out 0
+  laying-starts out h k = record { long = sym h; same = k ∙ sym h; within = omega arith; rest = refl }
+
+  module _ (out : List ℕ) (i : ℕ) (o : Laying d s out i) where
+    laying-step : (v : ℕ) → v ≡ sourceFirst (getD d i 0) (getD s i 0) → i < length out → i < length d → i < length s → take (i + 1) (set out i v) ++ overwritten (drop (i + 1) d) (drop (i + 1) s) ≡ take i out ++ overwritten (drop i d) (drop i s)
+    unfolding overwritten sourceFirst
+    laying-step v e ho hd hs = rw (e, add-one, take-suc-set, append-snoc, drop-cons d i 0, drop-cons s i 0)
+
+    pub laying-turn : (v : ℕ) → v ≡ sourceFirst (getD d i 0) (getD s i 0) → i < length out → Laying d s (set out i v) (i + 1)
+    laying-turn v e h = record {
+      long = simp length-set (o .long);
+      same = o .same;
+      within = simp length-set (omega arith);
+      rest = laying-step v e h (omega (arith, o .long)) (omega (arith, o .long, o .same)) ∙ o .rest;
+    }
+
+    laid : length out ≤ i → take i out ++ overwritten (drop i d) (drop i s) ≡ out
+    unfolding overwritten
+    laid h = let k : length d ≤ i = omega (arith, o .long) in rw (take-all, drop-of-length-le d, append-nil)
+
+    pub laying-ends : length out ≤ i → out ≡ overwritten d s
+    laying-ends h = sym (laid h) ∙ o .rest

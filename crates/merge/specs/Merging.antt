@@ -1,13 +1,13 @@
 -- Merging: at one place, and what merging alone answers with the destination afterwards. Assumes nothing.
 use Prim.Native.Nat.{ℕ}
 use mathlib.Core.Path.{_≡_}
-use mathlib.Core.Bool.{cond, _||_}
+use mathlib.Core.Bool.{Bool, cond, _||_}
 use mathlib.Core.Option.{Option, none, some}
 use mathlib.Core.List.{List}
 use lib.Dec.{eqb}
 use lib.ListN.{length}
 use Rattle.model.specs.Reading.{missing}
-use Rattle.model.specs.Row.{merged}
+use Rattle.model.specs.Row.{overwritten, merged}
 use Rattle.merge.specs.declared.Merged.{Merged}
 use Rattle.merge.specs.declared.Merged.the-variants.{Done, Overlapping, Unequal}
 
@@ -18,6 +18,10 @@ bothOf x y = cond (missing x || missing y) 0 1
 -- 01: the source's readings overwrite
 unfoldable pub sourceFirst : ℕ → ℕ → ℕ
 sourceFirst x y = cond (missing y) x y
+
+-- the merged row, by a test
+abbrev pub mergedIf : Bool → List ℕ → List ℕ → Option (List ℕ)
+mergedIf b d s = cond b (some (overwritten d s)) none
 
 pub data Merging : Type 0 where
   done : List ℕ → Merging  -- the merged row

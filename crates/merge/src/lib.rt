@@ -1,8 +1,8 @@
 // One row merged into another.
 ghost use mathlib.Core.Path.{_≡_};
 ghost use lib.ListN.{length};
-ghost use Rattle.model.specs.Row.{overlaps, overwritten};
-ghost use Rattle.merge.specs.Merging.{bothOf, sourceFirst, MergedAs};
+ghost use Rattle.model.specs.Row.{overlaps, overwritten, merged};
+ghost use Rattle.merge.specs.Merging.{bothOf, sourceFirst, mergedIf, MergedAs};
 
 pub enum Merged {
     Done,
@@ -65,4 +65,28 @@ pub fn merge_non_overlapping_timeseries(dst: &mut [u64], src: &[u64], allowance:
     }
     overwrite(dst, src);
     Merged::Done
+}
+
+// Whether src merges into dst; nothing is written.
+pub fn merges(dst: &[u64], src: &[u64], allowance: usize) -> bool
+    requires { ⌜ length (now src) ≡ length (now dst) ⌝ }
+    ensures { λ r. ⌜ mergedIf r (now (dst .entry)) (now (src .entry)) ≡ merged allowance (now (dst .entry)) (now (src .entry)) ⌝ }
+{
+    if dst.len() <= 2 {
+        return false;
+    }
+    overlaps(dst, src) <= allowance
+}
+
+// Writes the source's readings over the destination's into a third row.
+pub fn put_overwritten(out: &mut [u64], dst: &[u64], src: &[u64])
+    requires { ⌜ length (now dst) ≡ length (now out) ⌝ }
+    requires { ⌜ length (now src) ≡ length (now out) ⌝ }
+    ensures { λ _. ⌜ now (out .exit) ≡ overwritten (now (dst .entry)) (now (src .entry)) ⌝ }
+{
+    let mut i: usize = 0;
+    while i < out.len() {
+        out[i] = source_first(dst[i], src[i]);
+        i += 1;
+    }
 }

@@ -7,22 +7,22 @@ use mathlib.Core.List.{List, [], _∷_}
 use native.Mathlib.Nat.{sub-zero, mul-le-mul-right, suc-mul}
 use native.Mathlib.Numerals.{add-one}
 use native.Mathlib.Omega.{arith}
-use lib.Dec.{eqb}
+use lib.Dec.{eqb, ltb}
 use lib.ListN.{length, getD, take, drop, length-drop}
 use lib.Seq.{drop-cons, length-take-le, take-all}
 use borrow.Author.Tests.{eq-eqb, ne-eqb}
 use Rattle.model.specs.Lists.{cases}
-use Rattle.model.specs.Row.{merged}
+use Rattle.model.specs.Row.{overwritten, merged}
 use Rattle.merge.specs.declared.Merged.{Merged}
 use Rattle.merge.specs.declared.Merged.the-variants as M
-use Rattle.merge.specs.Merging.{Merging, done, overlapping, refused, doneOr, mergedAlone, MergedAs}
+use Rattle.merge.specs.Merging.{Merging, done, overlapping, refused, doneOr, mergedIf, mergedAlone, MergedAs}
 use Rattle.plan.specs.Keys.{firstOf, lastOf}
 use Rattle.plan.specs.Merging.{rowAt, RowMerge, row, failedAt, onRow, mergeGroup, mergeLast, mergeLead}
 use Rattle.merging.specs.declared.Merges.{Merges}
 use Rattle.merging.specs.declared.Merges.the-variants.{Done, FailedAt}
-use Rattle.merging.specs.Groups.{absorbedOne, thereIf, AbsorbedAs, MergedGroup}
+use Rattle.merging.specs.Groups.{Ends, absorbedOne, thereIf, AbsorbedAs, MergedGroup}
 use Rattle.key_places.specs.Places as Places
-use Rattle.merging.specs.Laws.{last-places, last-within}
+use Rattle.merging.specs.Laws.{first-places, last-places, last-within, ends-within, several-merged, overwritten-wide}
 
 -- `absorb`
 
@@ -180,3 +180,51 @@ module _ (rows keys : List ℕ) (p : ℕ) (room : length keys * p ≤ length row
         let e : length d ≡ p = rw hd (lead-long s hs) in
         let t : take (length keys - (o + 1)) (drop (o + 1) keys) ≡ drop (o + 1) keys = take-all (length keys - (o + 1)) (drop (o + 1) keys) (omega (arith, length-drop (o + 1) keys)) in
         rw (e, t, add-one o, hd, hs) at m
+
+-- `row_merges`
+
+pub rows-alike : (p : ℕ) (rows : List ℕ) (i j : ℕ) → i * p + p ≤ length rows → j * p + p ≤ length rows → (s d : List ℕ) → d ≡ rowAt p rows i → s ≡ rowAt p rows j → length s ≡ length d
+rows-alike p rows i j hi hj s d hd hs =
+    let a : length d ≡ p = ap length hd ∙ length-take-le p (drop (i * p) rows) (omega (arith, length-drop (i * p) rows)) in
+    let b : length s ≡ p = ap length hs ∙ length-take-le p (drop (j * p) rows) (omega (arith, length-drop (j * p) rows)) in
+    b ∙ sym a
+
+pub rows-told : (allowance p : ℕ) (rows : List ℕ) (i j : ℕ) (s d : List ℕ) → d ≡ rowAt p rows i → s ≡ rowAt p rows j → (r : Bool) → mergedIf r d s ≡ merged allowance d s → mergedIf r (rowAt p rows i) (rowAt p rows j) ≡ merged allowance (rowAt p rows i) (rowAt p rows j)
+rows-told allowance p rows i j s d hd hs r h = rw (hd, hs) at h
+
+-- `stands_between`
+
+pub between-told : (keys : List ℕ) (k from to a : ℕ) → a ≡ Places.firstOf (take (to - from) (drop from keys)) k → ltb a (to - from) ≡ ltb (firstOf (take (to - from) (drop from keys)) k) (to - from)
+between-told keys k from to a h = rw (h, first-places k (take (to - from) (drop from keys)))
+
+-- `merge_several`
+
+module _ (rows keys : List ℕ) (p : ℕ) (room : length keys * p ≤ length rows) (k first last : ℕ) (e : Ends keys k first last) where
+  ends-last : last < length keys
+  ends-last = ends-within 0 p rows k keys first last e
+
+  pub ends-last-row : last * p + p ≤ length rows
+  ends-last-row = row-of last (length keys) p rows ends-last room
+
+  pub ends-first-row : first * p + p ≤ length rows
+  ends-first-row = row-of first (length keys) p rows (e .stands) room
+
+  pub ends-last-in : last ≤ length keys
+  ends-last-in = omega (arith, ends-last)
+
+  pub ends-long : (s : List ℕ) → s ≡ rowAt p rows last → length s ≡ p
+  ends-long s hs = rw hs (row-long last (length keys) p rows ends-last room)
+
+  pub ends-first-long : (s : List ℕ) → s ≡ rowAt p rows first → length s ≡ p
+  ends-first-long s hs = rw hs (row-long first (length keys) p rows (e .stands) room)
+
+  module _ (x y d : List ℕ) (hx : x ≡ rowAt p rows last) (hy : y ≡ rowAt p rows first) (hd : d ≡ overwritten x y) where
+    several-long : length d ≡ p
+    several-long = ap length hd ∙ overwritten-wide x y ∙ ends-long x hx
+
+    pub several-room : length keys * length d ≤ length rows
+    several-room = rw several-long room
+
+    pub several-told : (allowance : ℕ) → first < last → mergedIf true (rowAt p rows last) (rowAt p rows first) ≡ merged allowance (rowAt p rows last) (rowAt p rows first) → (d′ : List ℕ) (r : Merges) → MergedGroup (mergeGroup allowance (length d) rows k (first + 1) (take (last - (first + 1)) (drop (first + 1) keys)) d) (length d) d′ r → MergedGroup (mergeLast allowance p rows keys k) p d′ r
+    several-told allowance h m d′ r g =
+        rw (several-merged allowance p rows k keys first last e h m) (rw (several-long, add-one first, hd, hx, hy) at g)

@@ -1,17 +1,22 @@
 -- First and last places as the code finds them are the plan's; and a key of one series is its row. Assumes nothing.
-use Prim.Native.Nat.{ℕ, zero, suc, _+_, _≤_, _<_}
+use Prim.Native.Nat.{ℕ, zero, suc, _+_, _-_, _≤_, _<_}
 use mathlib.Core.Path.{_≡_, refl, sym, ap, _∙_}
 use mathlib.Core.Bool.{Bool, true, false, cond}
 use mathlib.Core.List.{List, [], _∷_}
 use native.Mathlib.Omega.{arith}
 use lib.Dec.{eqb, ltb}
-use lib.ListN.{length, getD, take}
+use mathlib.Core.Option.{Option, none, some}
+use lib.ListN.{length, getD, take, drop}
+use lib.Seq.{take-all}
 use borrow.Author.Tests.{eqb-true, eq-eqb, ltb-true, ltb-false, lt-ltb, le-ltb}
 use Rattle.model.specs.Lists.{cases}
 use Rattle.key_places.specs.Places as Places
 use Rattle.key_places.specs.Places.{firstWhere, lastWhere, last-later, last-here, last-absent}
 use Rattle.plan.specs.Keys.{firstOf, lastFrom, lastOf}
-use Rattle.plan.specs.Merging.{rowAt, row, mergeGroup, mergeLast}
+use Rattle.model.specs.Row.{overwritten, merged}
+use Rattle.merge.specs.Merging.{mergedIf}
+use Rattle.plan.specs.Merging.{RowMerge, rowAt, row, failedAt, onRow, mergeGroup, mergeLast}
+use Rattle.merging.specs.Groups.{Ends}
 
 module _ (k : ℕ) where
   abbrev isKey : ℕ → Bool
@@ -48,6 +53,12 @@ module _ (k : ℕ) where
       (λ e. rw e (omega arith))
       (λ e. rw e (let h = ltb-false (Places.lastOf keys k) (length keys) e in omega (arith, h, Places.last-within isKey keys))))
 
+  pub first-most : (keys : List ℕ) → firstOf keys k ≤ length keys
+  first-most keys = rw (← first-places keys) (Places.first-within isKey keys)
+
+  pub last-most : (keys : List ℕ) → lastOf keys k ≤ length keys
+  last-most keys = rw (← last-places keys) (Places.last-within isKey keys)
+
   -- a key that stands somewhere stands at its first and at its last place
 
   module _ (keys : List ℕ) (h : firstOf keys k < length keys) where
@@ -79,3 +90,43 @@ module _ (allowance p : ℕ) (rows : List ℕ) (k : ℕ) where
   pub single-row : (keys : List ℕ) → firstOf keys k ≡ lastOf keys k → mergeLast allowance p rows keys k ≡ row (rowAt p rows (lastOf keys k))
   unfolding mergeLast
   single-row keys h = ap (λ n. mergeGroup allowance p rows k 0 (take n keys) (rowAt p rows (lastOf keys k))) (sym h) ∙ none-merge keys 0 (rowAt p rows (lastOf keys k))
+
+  -- where a key stands nowhere, nothing is merged
+  pub none-among : (xs : List ℕ) (i : ℕ) (d : List ℕ) → length xs ≤ firstOf xs k → mergeGroup allowance p rows k i xs d ≡ row d
+  none-among xs i d h = ap (λ ys. mergeGroup allowance p rows k i ys d) (sym (take-all (firstOf xs k) xs h)) ∙ none-merge xs i d
+
+  -- the first of a key is the first to be merged
+  first-merge : (keys : List ℕ) (f i n : ℕ) (d : List ℕ) → firstOf keys k ≡ f → f < n → f < length keys → (j : ℕ) → j ≡ i + f → mergeGroup allowance p rows k i (take n keys) d ≡ onRow (merged allowance d (rowAt p rows j)) (failedAt j) (mergeGroup allowance p rows k (suc j) (take (n - suc f) (drop (suc f) keys)))
+  unfolding firstOf mergeGroup
+  first-merge [] f i n d e h w j hj = absurd (omega arith)
+  first-merge (x ∷ xs) f i zero d e h w j hj = absurd (omega arith)
+  first-merge (x ∷ xs) zero i (suc n) d e h w j hj =
+      cases (eqb x k)
+      (λ y. let z : j ≡ i = omega arith in let m : suc n - suc zero ≡ n = omega arith in rw (y, z, m))
+      (λ y. absurd (let z : suc (firstOf xs k) ≡ 0 = rw y at e in omega (arith, z)))
+  first-merge (x ∷ xs) (suc f) i (suc n) d e h w j hj =
+      cases (eqb x k)
+      (λ y. absurd (let z : 0 ≡ suc f = rw y at e in omega (arith, z)))
+      (λ y. let m : suc n - suc (suc f) ≡ n - suc f = omega arith in rw (y, m) (first-merge xs f (suc i) n d (let z : suc (firstOf xs k) ≡ suc f = rw y at e in omega (arith, z)) (omega arith) (omega arith) j (omega arith)))
+
+  -- the first place is not behind the last
+  pub first-last : (keys : List ℕ) → firstOf keys k < length keys → firstOf keys k ≤ lastOf keys k
+  first-last keys h = first-before k keys (lastOf keys k) (last-within k keys h) (last-is k keys h)
+
+  module _ (keys : List ℕ) (first last : ℕ) (e : Ends keys k first last) where
+    pub ends-within : last < length keys
+    ends-within = rw (e .last-place) (last-within k keys (rw (← e .first-place) (e .stands)))
+
+    -- several series: the first of them is merged into the last, then those between
+    pub several : first < last → mergeLast allowance p rows keys k ≡ onRow (merged allowance (rowAt p rows last) (rowAt p rows first)) (failedAt first) (mergeGroup allowance p rows k (suc first) (take (last - suc first) (drop (suc first) keys)))
+    unfolding mergeLast
+    several h = rw (← e .last-place) (first-merge keys first 0 last (rowAt p rows last) (sym (e .first-place)) h (e .stands) first (omega arith))
+
+    pub several-merged : first < last → mergedIf true (rowAt p rows last) (rowAt p rows first) ≡ merged allowance (rowAt p rows last) (rowAt p rows first) → mergeLast allowance p rows keys k ≡ mergeGroup allowance p rows k (suc first) (take (last - suc first) (drop (suc first) keys)) (overwritten (rowAt p rows last) (rowAt p rows first))
+    several-merged h m = several h ∙ rw (← m)
+
+pub overwritten-wide : (d s : List ℕ) → length (overwritten d s) ≡ length d
+unfolding overwritten
+overwritten-wide [] s = refl
+overwritten-wide (x ∷ d) [] = refl
+overwritten-wide (x ∷ d) (y ∷ s) = ap suc (overwritten-wide d s)

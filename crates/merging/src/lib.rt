@@ -2,17 +2,42 @@
 use merge::Merged;
 ghost use mathlib.Core.Path.{_≡_};
 ghost use Prim.Native.Nat.{_+_, _-_, _*_, _≤_, _<_};
-ghost use lib.Dec.{eqb};
+ghost use mathlib.Core.Bool.{true};
+ghost use lib.Dec.{eqb, ltb};
 ghost use lib.ListN.{length, take, drop};
+ghost use Rattle.model.specs.Row.{merged};
+ghost use Rattle.merge.specs.Merging.{mergedIf};
 ghost use Rattle.plan.specs.Keys.{firstOf, lastOf};
-ghost use Rattle.plan.specs.Merging.{mergeGroup, mergeLast, mergeLead};
-ghost use Rattle.merging.specs.Groups.{AbsorbedAs, MergedGroup};
+ghost use Rattle.plan.specs.Merging.{rowAt, mergeGroup, mergeLast, mergeLead};
+ghost use Rattle.merging.specs.Groups.{Ends, AbsorbedAs, MergedGroup};
 
 // Whether a key has one series, which then needs no merging.
 pub fn is_single(keys: &[usize], k: usize) -> bool
     ensures { λ r. ⌜ r ≡ eqb (firstOf (now (keys .entry)) k) (lastOf (now (keys .entry)) k) ⌝ }
 {
     key_places::first_of(keys, k) == key_places::last_of(keys, k)
+}
+
+// Whether a key stands between two places.
+pub fn stands_between(keys: &[usize], k: usize, from: usize, to: usize) -> bool
+    requires { ⌜ from ≤ to ⌝ }
+    requires { ⌜ to ≤ length (now keys) ⌝ }
+    ensures { λ r. ⌜ r ≡ ltb (firstOf (take (to - from) (drop from (now (keys .entry)))) k) (to - from) ⌝ }
+{
+    key_places::first_of(&keys[from..to], k) < to - from
+}
+
+// Whether the row of one series merges into that of another; nothing is written.
+pub fn row_merges(rows: &[u64], p: usize, into: usize, from: usize, allowance: usize) -> bool
+    requires { ⌜ into * p + p ≤ length (now rows) ⌝ }
+    requires { ⌜ from * p + p ≤ length (now rows) ⌝ }
+    ensures { λ r. ⌜ mergedIf r (rowAt p (now (rows .entry)) into) (rowAt p (now (rows .entry)) from) ≡ merged allowance (rowAt p (now (rows .entry)) into) (rowAt p (now (rows .entry)) from) ⌝ }
+{
+    merge::merges(
+        timeseries::row(rows, p, into),
+        timeseries::row(rows, p, from),
+        allowance,
+    )
 }
 
 // Merges the row of series i, whose group is x, if that is g. Says whether the row is merged as it should be.
@@ -79,6 +104,31 @@ pub fn merge_last(
     let last = key_places::last_of(keys, k);
     answers::copy_row(dst, timeseries::row(rows, p, last));
     merge_between(rows, keys, k, 0, last, allowance, dst)
+}
+
+// The last row of a key of several series, with the earlier ones merged into it. The first is known to merge, so its places are not counted again.
+pub fn merge_several(
+    rows: &[u64],
+    keys: &[usize],
+    k: usize,
+    first: usize,
+    last: usize,
+    allowance: usize,
+    dst: &mut [u64],
+) -> Merges
+    requires { ⌜ Ends (now keys) k first last ⌝ }
+    requires { ⌜ first < last ⌝ }
+    requires { ⌜ mergedIf true (rowAt (length (now dst)) (now rows) last) (rowAt (length (now dst)) (now rows) first) ≡ merged allowance (rowAt (length (now dst)) (now rows) last) (rowAt (length (now dst)) (now rows) first) ⌝ }
+    requires { ⌜ length (now keys) * length (now dst) ≤ length (now rows) ⌝ }
+    ensures { λ r. ⌜ MergedGroup (mergeLast allowance (length (now (dst .entry))) (now (rows .entry)) (now (keys .entry)) k) (length (now (dst .entry))) (now (dst .exit)) r ⌝ }
+{
+    let p = dst.len();
+    merge::put_overwritten(
+        dst,
+        timeseries::row(rows, p, last),
+        timeseries::row(rows, p, first),
+    );
+    merge_between(rows, keys, k, first + 1, last, allowance, dst)
 }
 
 // The row that leads a group, with the later ones merged into it.

@@ -85,17 +85,18 @@ module _ (lkeys rkeys d₀ d : List ℕ) (n : ℕ) (w : Put d₀ 0 (pairsFrom lk
   pub listed-wide : n ≡ length (take n d)
   listed-wide = sym (length-take-le n d listed-within)
 
-  module _ (p : ℕ) (array at lefts rights : List ℕ) (c : Clear p array at lkeys lefts rkeys rights) where
+  module _ (p : ℕ) (array at lefts rights ends : List ℕ) (c : Clear p array at lkeys lefts rkeys rights ends) where
     paired : (r : ℕ) → r < length (pairsFrom lkeys rkeys 0 lkeys) → Paired twoOverlaps (sidesOf p lefts lkeys rights rkeys) (getD (pairsFrom lkeys rkeys 0 lkeys) r 0)
     paired = each-paired twoOverlaps p lefts lkeys rights rkeys (c .sides) lkeys 0 (omega arith) (c .none-fails)
 
     few : length (pairsFrom lkeys rkeys 0 lkeys) ≤ maxSeries
     few = omega (arith, pairs-at-most lkeys rkeys, c .sides .lefts .few)
 
-    pub listed-all : Listed p array at lkeys lefts rkeys rights (take n d)
+    pub listed-all : Listed p array at lkeys lefts rkeys rights ends (take n d)
     listed-all =
         rw listed
         (record {
+          noted = c .noted;
           labels = c .labels;
           places = record { few = few; each = λ r h. omega (arith, paired r h .within, c .count) };
           paired = record { few = few; narrow = c .sides .lefts .narrow; each = paired };

@@ -12,6 +12,7 @@ use borrow.Rule.Slice.PartMut.{putMid}
 use Rattle.operator.specs.declared.Operator.{Operator}
 use Rattle.model.specs.Reading.{scalarOp}
 use Rattle.answers.proofs.Rows.{RowsWriting, rows-start, row-within, rows-turn}
+use Rattle.key_ends.specs.Codes.{CodeOf, PairEnds, code-at}
 use Rattle.pairs.specs.Pairing.{sidesOf}
 use Rattle.one_to_one.specs.Rows.{sideRow, pairedRow, Paired, PairedRows}
 use Rattle.one_to_one.proofs.Widths.{zip-wide, merged-wide}
@@ -21,6 +22,18 @@ use Rattle.one_to_one.proofs.Widths.{zip-wide, merged-wide}
 module _ (allowance p : ℕ) (left lkeys right rkeys list : List ℕ) (w : PairedRows allowance (sidesOf p left lkeys right rkeys) list) (r : ℕ) (h : r < length list) where
   most : r * p ≤ 524288
   most = let few : r ≤ 512 = omega (arith, w .few) in let z : r * p ≤ 512 * 1024 = mul-le-mul few (w .narrow) in omega arith
+
+  -- and its place has a code of its key
+
+  module _ (ends : List ℕ) (e : PairEnds lkeys rkeys ends) where
+    pub listed-in : getD list r 0 < length ends
+    listed-in = omega (arith, w .each r h .within, e .room)
+
+    pub listed-fits : Fits w64 (getD list r 0 * 8)
+    listed-fits = omega (arith, w .each r h .within, e .left-few)
+
+    pub listed-code : CodeOf lkeys rkeys (getD lkeys (getD list r 0) 0) (getD ends (getD list r 0) 0)
+    listed-code = code-at lkeys rkeys ends e (getD list r 0) (w .each r h .within)
 
   pub from-fits : Fits w64 (r * p)
   from-fits = omega (arith, most)

@@ -12,6 +12,7 @@ use Rattle.answers.specs.declared.Outcome.{Outcome}
 use Rattle.answers.specs.declared.Outcome.the-variants as Out
 use Rattle.answers.specs.Outcomes.{Ran}
 use Rattle.answers.proofs.Concluding.{ran-left-twice, ran-right-twice, ran-without-clash}
+use Rattle.key_ends.specs.Codes.{PairEnds}
 use Rattle.pairs.specs.declared.Checked.{Checked}
 use Rattle.pairs.specs.declared.Checked.the-variants as C
 use Rattle.pairs.specs.Pairing.{sidesOf, PairSides, LeftLabels, clashIn}
@@ -35,7 +36,7 @@ module _ (s : Sides) (x : Checked) (found : clashIn x ≡ pairsClash twoOverlaps
     run-answer q labels labels₀ out₀ labels₁ out₁ r a =
         ran-without-clash (record { points = s .points }) labels₀ out₀ (pairsClash twoOverlaps s 0 (s .leftKeys)) (map (pairSeries q s labels) (pairsFrom (s .leftKeys) (s .rightKeys) 0 (s .leftKeys))) labels₁ out₁ r none-found a
 
-pub run-clear : (p : ℕ) (array at lkeys left rkeys right : List ℕ) → PairSides p left lkeys right rkeys → LeftLabels array at → length at ≡ length lkeys + 1
-    → (x : Checked) → clashIn x ≡ pairsClash twoOverlaps (sidesOf p left lkeys right rkeys) 0 lkeys → x ≡ C.Fine → Clear p array at lkeys left rkeys right
-run-clear p array at lkeys left rkeys right s l c x found h =
-    record { sides = s; labels = l; count = c; none-fails = none-found (sidesOf p left lkeys right rkeys) x found h }
+pub run-clear : (p : ℕ) (array at lkeys left rkeys right ends : List ℕ) → PairSides p left lkeys right rkeys → PairEnds lkeys rkeys ends → LeftLabels array at → length at ≡ length lkeys + 1
+    → (x : Checked) → clashIn x ≡ pairsClash twoOverlaps (sidesOf p left lkeys right rkeys) 0 lkeys → x ≡ C.Fine → Clear p array at lkeys left rkeys right ends
+run-clear p array at lkeys left rkeys right ends s e l c x found h =
+    record { noted = e; sides = s; labels = l; count = c; none-fails = none-found (sidesOf p left lkeys right rkeys) x found h }

@@ -11,16 +11,10 @@ use lib.Seq.{length-take-le}
 use Rattle.model.specs.Row.{zipWith, overlaps, overwritten, merged}
 use Rattle.plan.specs.Keys.{lastOf}
 use Rattle.plan.specs.Merging.{rowAt, RowMerge, row, failedAt, onRow, rowOf, mergeGroup, mergeLast}
-use Rattle.merging.specs.Laws.{last-within}
+use Rattle.merging.specs.Laws.{last-within, overwritten-wide}
 use Rattle.answers.proofs.Rows.{row-in}
 use Rattle.pairs.specs.Pairing.{failureOf}
 use Rattle.one_to_one.specs.Rows.{SideMerged, sideRow}
-
-overwritten-wide : (d s : List ℕ) → length (overwritten d s) ≡ length d
-unfolding overwritten
-overwritten-wide [] s = refl
-overwritten-wide (x ∷ d) [] = refl
-overwritten-wide (x ∷ d) (y ∷ s) = ap suc (overwritten-wide d s)
 
 pub zip-wide : (f : ℕ → ℕ → ℕ) (p : ℕ) (x y : List ℕ) → length x ≡ p → length y ≡ p → length (zipWith f x y) ≡ p
 unfolding zipWith

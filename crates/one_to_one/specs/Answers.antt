@@ -12,6 +12,7 @@ use Rattle.semantics.specs.Call.{Outcome, fit}
 use Rattle.plan.specs.Conclude.{conclude}
 use Rattle.plan.specs.Pairs.{Sides, pairsClash, pairsFrom, pairSeries}
 use Rattle.answers.specs.Outcomes.{startingWith}
+use Rattle.key_ends.specs.Codes.{PairEnds}
 use Rattle.pairs.specs.Edits.{pairLabels}
 use Rattle.pairs.specs.Pairing.{PairSides, LeftLabels, PlacesIn, LabelsPut, sidesOf}
 use Rattle.one_to_one.specs.Rows.{pairedRow, PairedRows}
@@ -28,13 +29,15 @@ oneToOne q labelRoom room s labels =
     (map (pairSeries q s labels) (pairsFrom (s .leftKeys) (s .rightKeys) 0 (s .leftKeys)))
 
 -- left places, each with its record, whose keys merge on both sides
-pub record Listed (p : ℕ) (array at lkeys left rkeys right list : List ℕ) : Type 0 where
+pub record Listed (p : ℕ) (array at lkeys left rkeys right ends list : List ℕ) : Type 0 where
+  pub noted : PairEnds lkeys rkeys ends
   pub labels : LeftLabels array at
   pub places : PlacesIn list at
   pub paired : PairedRows twoOverlaps (sidesOf p left lkeys right rkeys) list
 
 -- sides as they are lent, where no merge fails
-pub record Clear (p : ℕ) (array at lkeys left rkeys right : List ℕ) : Type 0 where
+pub record Clear (p : ℕ) (array at lkeys left rkeys right ends : List ℕ) : Type 0 where
+  pub noted : PairEnds lkeys rkeys ends
   pub sides : PairSides p left lkeys right rkeys
   pub labels : LeftLabels array at
   pub count : length at ≡ length lkeys + 1

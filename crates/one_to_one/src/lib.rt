@@ -6,7 +6,7 @@ use pairs::Checked;
 use query::Query;
 ghost use mathlib.Core.Path.{_≡_};
 ghost use Prim.Native.Nat.{_+_, _*_, _≤_, _<_};
-ghost use lib.ListN.{length};
+ghost use lib.ListN.{length, getD};
 ghost use Rattle.model.specs.Lists.{gather};
 ghost use Rattle.model.specs.Reading.{scalarOp};
 ghost use Rattle.model.specs.Row.{zipWith};
@@ -14,6 +14,8 @@ ghost use Rattle.plan.specs.Pairs.{pairsFrom};
 ghost use Rattle.timeseries.specs.Sides.{labelsIn};
 ghost use Rattle.answers.specs.Outcomes.{startingWith, Ran};
 ghost use Rattle.answers.specs.Tallies.{recordsOf};
+ghost use Rattle.merging.specs.Groups.{Ends};
+ghost use Rattle.key_ends.specs.Codes.{CodeOf, PairEnds, leftFirst, leftLast};
 ghost use Rattle.pairs.specs.Edits.{queryBy, pairLabels};
 ghost use Rattle.pairs.specs.Pairing.{sidesOf, PairSides, LeftLabels};
 ghost use Rattle.one_to_one.specs.Rows.{SideMerged, sideRow, pairedRow, Paired, PairedRows};
@@ -27,17 +29,21 @@ fn with_merged_right(
     right: &[u64],
     rkeys: &[usize],
     k: usize,
+    first: usize,
+    last: usize,
     allowance: usize,
     work: &mut [u64],
     out: &mut [u64],
 )
     requires { ⌜ SideMerged allowance (length (now out)) (now right) (now rkeys) k ⌝ }
+    requires { ⌜ Ends (now rkeys) k first last ⌝ }
+    requires { ⌜ first < last ⌝ }
     requires { ⌜ length (now left) ≡ length (now out) ⌝ }
     requires { ⌜ length (now work) ≡ length (now out) ⌝ }
     ensures { λ _. ⌜ now (work .exit) ≡ sideRow allowance (length (now (out .entry))) (now (right .entry)) (now (rkeys .entry)) k ⌝ }
     ensures { λ _. ⌜ now (out .exit) ≡ zipWith (scalarOp op bool) (now (left .entry)) (sideRow allowance (length (now (out .entry))) (now (right .entry)) (now (rkeys .entry)) k) ⌝ }
 {
-    merging::merge_last(right, rkeys, k, allowance, work);
+    merging::merge_several(right, rkeys, k, first, last, allowance, work);
     rows::apply_rows(op, bool, left, work, out);
 }
 
@@ -49,17 +55,19 @@ fn with_right(
     right: &[u64],
     rkeys: &[usize],
     k: usize,
+    first: usize,
+    last: usize,
     allowance: usize,
     out: &mut [u64],
 )
     requires { ⌜ SideMerged allowance (length (now out)) (now right) (now rkeys) k ⌝ }
+    requires { ⌜ Ends (now rkeys) k first last ⌝ }
     requires { ⌜ length (now left) ≡ length (now out) ⌝ }
     ensures { λ _. ⌜ now (out .exit) ≡ zipWith (scalarOp op bool) (now (left .entry)) (sideRow allowance (length (now (out .entry))) (now (right .entry)) (now (rkeys .entry)) k) ⌝ }
 {
     let p = out.len();
-    if merging::is_single(rkeys, k) {
-        let j = key_places::last_of(rkeys, k);
-        rows::apply_rows(op, bool, left, timeseries::row(right, p, j), out);
+    if last <= first {
+        rows::apply_rows(op, bool, left, timeseries::row(right, p, last), out);
         return;
     }
     let mut work = [0u64; 1024];
@@ -70,6 +78,8 @@ fn with_right(
         right,
         rkeys,
         k,
+        first,
+        last,
         allowance,
         &mut work[..p],
         out,
@@ -85,18 +95,34 @@ fn merged_pair_row(
     right: &[u64],
     rkeys: &[usize],
     k: usize,
+    c: usize,
     allowance: usize,
     work: &mut [u64],
     out: &mut [u64],
 )
     requires { ⌜ SideMerged allowance (length (now out)) (now left) (now lkeys) k ⌝ }
     requires { ⌜ SideMerged allowance (length (now out)) (now right) (now rkeys) k ⌝ }
+    requires { ⌜ CodeOf (now lkeys) (now rkeys) k c ⌝ }
+    requires { ⌜ leftFirst c < leftLast c ⌝ }
     requires { ⌜ length (now work) ≡ length (now out) ⌝ }
     ensures { λ _. ⌜ now (work .exit) ≡ sideRow allowance (length (now (out .entry))) (now (left .entry)) (now (lkeys .entry)) k ⌝ }
     ensures { λ _. ⌜ now (out .exit) ≡ zipWith (scalarOp op bool) (sideRow allowance (length (now (out .entry))) (now (left .entry)) (now (lkeys .entry)) k) (sideRow allowance (length (now (out .entry))) (now (right .entry)) (now (rkeys .entry)) k) ⌝ }
 {
-    merging::merge_last(left, lkeys, k, allowance, work);
-    with_right(op, bool, work, right, rkeys, k, allowance, out);
+    let first = key_ends::left_first(c);
+    let last = key_ends::left_last(c);
+    merging::merge_several(left, lkeys, k, first, last, allowance, work);
+    with_right(
+        op,
+        bool,
+        work,
+        right,
+        rkeys,
+        k,
+        key_ends::right_first(c),
+        key_ends::right_last(c),
+        allowance,
+        out,
+    );
 }
 
 // The answer row of the key of a left place.
@@ -108,16 +134,18 @@ fn pair_row(
     right: &[u64],
     rkeys: &[usize],
     j: usize,
+    c: usize,
     allowance: usize,
     out: &mut [u64],
 )
     requires { ⌜ Paired allowance (sidesOf (length (now out)) (now left) (now lkeys) (now right) (now rkeys)) j ⌝ }
+    requires { ⌜ CodeOf (now lkeys) (now rkeys) (getD (now lkeys) j 0) c ⌝ }
     ensures { λ _. ⌜ now (out .exit) ≡ pairedRow op bool allowance (sidesOf (length (now (out .entry))) (now (left .entry)) (now (lkeys .entry)) (now (right .entry)) (now (rkeys .entry))) j ⌝ }
 {
     let p = out.len();
     let k = lkeys[j];
-    if merging::is_single(lkeys, k) {
-        let last = key_places::last_of(lkeys, k);
+    let last = key_ends::left_last(c);
+    if last <= key_ends::left_first(c) {
         with_right(
             op,
             bool,
@@ -125,6 +153,8 @@ fn pair_row(
             right,
             rkeys,
             k,
+            key_ends::right_first(c),
+            key_ends::right_last(c),
             allowance,
             out,
         );
@@ -139,6 +169,7 @@ fn pair_row(
         right,
         rkeys,
         k,
+        c,
         allowance,
         &mut work[..p],
         out,
@@ -153,11 +184,13 @@ fn put_pair_rows(
     lkeys: &[usize],
     right: &[u64],
     rkeys: &[usize],
+    ends: &[usize],
     list: &[usize],
     p: usize,
     allowance: usize,
     out: &mut [u64],
 )
+    requires { ⌜ PairEnds (now lkeys) (now rkeys) (now ends) ⌝ }
     requires { ⌜ PairedRows allowance (sidesOf p (now left) (now lkeys) (now right) (now rkeys)) (now list) ⌝ }
     requires { ⌜ length (now list) * p ≤ length (now out) ⌝ }
     ensures { λ _. ⌜ now (out .exit) ≡ startingWith (gather (pairedRow op bool allowance (sidesOf p (now (left .entry)) (now (lkeys .entry)) (now (right .entry)) (now (rkeys .entry)))) (now (list .entry))) (now (out .entry)) ⌝ }
@@ -166,6 +199,7 @@ fn put_pair_rows(
     while r < list.len() {
         let from = r * p;
         let to = from + p;
+        let j = list[r];
         pair_row(
             op,
             bool,
@@ -173,7 +207,8 @@ fn put_pair_rows(
             lkeys,
             right,
             rkeys,
-            list[r],
+            j,
+            ends[j],
             allowance,
             &mut out[from..to],
         );
@@ -192,11 +227,12 @@ fn put_pairs(
     left: &[u64],
     rkeys: &[usize],
     right: &[u64],
+    ends: &[usize],
     list: &[usize],
     labels: &mut [u8],
     out: &mut [u64],
 ) -> usize
-    requires { ⌜ Listed p (now array) (now at) (now lkeys) (now left) (now rkeys) (now right) (now list) ⌝ }
+    requires { ⌜ Listed p (now array) (now at) (now lkeys) (now left) (now rkeys) (now right) (now ends) (now list) ⌝ }
     requires { ⌜ length (recordsOf (pairLabels (queryBy (now names) q) (labelsIn (now array) (now at))) (now list)) ≤ length (now labels) ⌝ }
     requires { ⌜ length (now list) * p ≤ length (now out) ⌝ }
     ensures { λ r. ⌜ PairsPut (queryBy (now (names .entry)) q) (sidesOf p (now (left .entry)) (now (lkeys .entry)) (now (right .entry)) (now (rkeys .entry))) (labelsIn (now (array .entry)) (now (at .entry))) (now (list .entry)) (now (labels .entry)) (now (labels .exit)) (now (out .entry)) (now (out .exit)) r ⌝ }
@@ -209,6 +245,7 @@ fn put_pairs(
         lkeys,
         right,
         rkeys,
+        ends,
         list,
         p,
         pairs::ALLOWED_OVERLAPS,
@@ -228,11 +265,12 @@ fn answer_pairs(
     left: &[u64],
     rkeys: &[usize],
     right: &[u64],
+    ends: &[usize],
     list: &[usize],
     labels: &mut [u8],
     out: &mut [u64],
 ) -> Outcome
-    requires { ⌜ Listed p (now array) (now at) (now lkeys) (now left) (now rkeys) (now right) (now list) ⌝ }
+    requires { ⌜ Listed p (now array) (now at) (now lkeys) (now left) (now rkeys) (now right) (now ends) (now list) ⌝ }
     ensures { λ r. ⌜ Ran (answerOf (queryBy (now (names .entry)) q) (length (now (labels .entry))) (length (now (out .entry))) (sidesOf p (now (left .entry)) (now (lkeys .entry)) (now (right .entry)) (now (rkeys .entry))) (labelsIn (now (array .entry)) (now (at .entry))) (now (list .entry))) (now (labels .entry)) (now (out .entry)) (now (labels .exit)) (now (out .exit)) r ⌝ }
 {
     let t = pairs::tally_pairs(array, at, list, q, names);
@@ -250,6 +288,7 @@ fn answer_pairs(
                 left,
                 rkeys,
                 right,
+                ends,
                 list,
                 labels,
                 out,
@@ -274,14 +313,15 @@ fn answer_all(
     left: &[u64],
     rkeys: &[usize],
     right: &[u64],
+    ends: &[usize],
     labels: &mut [u8],
     out: &mut [u64],
 ) -> Outcome
-    requires { ⌜ Clear p (now array) (now at) (now lkeys) (now left) (now rkeys) (now right) ⌝ }
+    requires { ⌜ Clear p (now array) (now at) (now lkeys) (now left) (now rkeys) (now right) (now ends) ⌝ }
     ensures { λ r. ⌜ Ran (answerOf (queryBy (now (names .entry)) q) (length (now (labels .entry))) (length (now (out .entry))) (sidesOf p (now (left .entry)) (now (lkeys .entry)) (now (right .entry)) (now (rkeys .entry))) (labelsIn (now (array .entry)) (now (at .entry))) (pairsFrom (now (lkeys .entry)) (now (rkeys .entry)) 0 (now (lkeys .entry)))) (now (labels .entry)) (now (out .entry)) (now (labels .exit)) (now (out .exit)) r ⌝ }
 {
     let mut list = [0usize; 512];
-    let n = pairs::list_pairs(lkeys, rkeys, &mut list);
+    let n = pairs::list_pairs(lkeys, rkeys, ends, &mut list);
     answer_pairs(
         q,
         names,
@@ -292,13 +332,55 @@ fn answer_all(
         left,
         rkeys,
         right,
+        ends,
         &list[..n],
         labels,
         out,
     )
 }
 
-// Runs a one-to-one query on two sides with their key numbers: every merge is tried first, then the answer is written where it fits.
+// Every merge tried first, then the answer written where it fits, by the places of each key.
+fn run_noted(
+    q: Query,
+    names: &[u8],
+    p: usize,
+    array: &[u8],
+    at: &[usize],
+    lkeys: &[usize],
+    left: &[u64],
+    rkeys: &[usize],
+    right: &[u64],
+    ends: &[usize],
+    labels: &mut [u8],
+    out: &mut [u64],
+) -> Outcome
+    requires { ⌜ PairSides p (now left) (now lkeys) (now right) (now rkeys) ⌝ }
+    requires { ⌜ PairEnds (now lkeys) (now rkeys) (now ends) ⌝ }
+    requires { ⌜ LeftLabels (now array) (now at) ⌝ }
+    requires { ⌜ length (now at) ≡ length (now lkeys) + 1 ⌝ }
+    ensures { λ r. ⌜ Ran (oneToOne (queryBy (now (names .entry)) q) (length (now (labels .entry))) (length (now (out .entry))) (sidesOf p (now (left .entry)) (now (lkeys .entry)) (now (right .entry)) (now (rkeys .entry))) (labelsIn (now (array .entry)) (now (at .entry)))) (now (labels .entry)) (now (out .entry)) (now (labels .exit)) (now (out .exit)) r ⌝ }
+{
+    match pairs::check_pairs(left, lkeys, right, rkeys, ends, p, pairs::ALLOWED_OVERLAPS) {
+        Checked::Left { kept, failed } => Outcome::LeftTwice { kept, failed },
+        Checked::Right { kept, failed } => Outcome::RightTwice { kept, failed },
+        Checked::Fine => answer_all(
+            q,
+            names,
+            p,
+            array,
+            at,
+            lkeys,
+            left,
+            rkeys,
+            right,
+            ends,
+            labels,
+            out,
+        ),
+    }
+}
+
+// Runs a one-to-one query on two sides with their key numbers, whose first and last places are noted first.
 pub fn run_pairs(
     q: Query,
     names: &[u8],
@@ -317,21 +399,20 @@ pub fn run_pairs(
     requires { ⌜ length (now at) ≡ length (now lkeys) + 1 ⌝ }
     ensures { λ r. ⌜ Ran (oneToOne (queryBy (now (names .entry)) q) (length (now (labels .entry))) (length (now (out .entry))) (sidesOf p (now (left .entry)) (now (lkeys .entry)) (now (right .entry)) (now (rkeys .entry))) (labelsIn (now (array .entry)) (now (at .entry)))) (now (labels .entry)) (now (out .entry)) (now (labels .exit)) (now (out .exit)) r ⌝ }
 {
-    match pairs::check_pairs(left, lkeys, right, rkeys, p, pairs::ALLOWED_OVERLAPS) {
-        Checked::Left { kept, failed } => Outcome::LeftTwice { kept, failed },
-        Checked::Right { kept, failed } => Outcome::RightTwice { kept, failed },
-        Checked::Fine => answer_all(
-            q,
-            names,
-            p,
-            array,
-            at,
-            lkeys,
-            left,
-            rkeys,
-            right,
-            labels,
-            out,
-        ),
-    }
+    let mut ends = [0usize; 512];
+    key_ends::pair_ends(lkeys, rkeys, &mut ends);
+    run_noted(
+        q,
+        names,
+        p,
+        array,
+        at,
+        lkeys,
+        left,
+        rkeys,
+        right,
+        &ends,
+        labels,
+        out,
+    )
 }

@@ -1,5 +1,5 @@
 -- Which left places pair, and the merges of their sides. Assumes nothing.
-use Prim.Native.Nat.{ℕ, suc, _+_, _*_, _≤_, _<_}
+use Prim.Native.Nat.{ℕ, suc, _+_, _-_, _*_, _≤_, _<_}
 use mathlib.Core.Path.{_≡_, refl, sym, ap, _∙_}
 use mathlib.Core.Bool.{Bool, true, false, not, _&&_, cond}
 use mathlib.Core.Option.{Option, none, some}
@@ -7,21 +7,24 @@ use mathlib.Core.List.{List, [], _∷_}
 use native.Mathlib.Numerals.{add-one}
 use native.Mathlib.Omega.{arith}
 use lib.Dec.{eqb, ltb}
-use lib.ListN.{length, getD, take, drop, drop-of-length-le}
+use lib.ListN.{length, getD, take, drop, length-drop, drop-of-length-le}
 use lib.Seq.{drop-cons, length-take-le}
-use borrow.Author.Tests.{eq-eqb, ne-eqb, eqb-true, ltb-true, not-true}
+use borrow.Author.Tests.{eq-eqb, ne-eqb, eqb-true, ltb-true, ltb-false, not-true}
+use Rattle.model.specs.Row.{overwritten, merged}
 use Rattle.model.specs.Query as Model
 use Rattle.model.specs.Laws.Booleans.{both-of}
 use Rattle.semantics.specs.Events.{Duplicate}
-use Rattle.key_places.specs.Places as Places
+use Rattle.key_ends.specs.Codes.{leftFirst, leftLast, rightFirst, rightLast, CodeOf, left-first, left-last, right-first, right-last}
 use Rattle.plan.specs.Keys.{dropped, firstOf, lastOf}
 use Rattle.plan.specs.Merging.{RowMerge, row, failedAt, rowAt, mergeLast, clash}
 use Rattle.plan.specs.Conclude.{orElse}
 use Rattle.plan.specs.Pairs.{Sides, isPair, pairClash, pairsClash}
 use Rattle.merging.specs.declared.Merges.{Merges}
 use Rattle.merging.specs.declared.Merges.the-variants.{Done, FailedAt}
-use Rattle.merging.specs.Groups.{mergesTo, MergedGroup}
-use Rattle.merging.specs.Laws.{first-places, last-places, single-row}
+use Rattle.merge.specs.Merging.{mergedIf}
+use Rattle.answers.proofs.Rows.{row-in}
+use Rattle.merging.specs.Groups.{Ends, mergesTo, MergedGroup}
+use Rattle.merging.specs.Laws.{single-row, none-among, first-last, ends-within, several, several-merged}
 use Rattle.pairs.specs.declared.Checked.{Checked}
 use Rattle.pairs.specs.declared.Checked.the-variants as C
 use Rattle.pairs.specs.Pairing.{sidesOf, Level, PairSides, failureOf, failedIn, clashIn, clashAt}
@@ -32,12 +35,15 @@ module _ (ks ms : List ℕ) (k i : ℕ) where
   pub pair-dropped : k ≡ dropped → false ≡ isPair ks ms k i
   pair-dropped h = rw (eq-eqb k dropped h)
 
-  module _ (h : k ≡ dropped → ⊥) (a : ℕ) (ha : a ≡ Places.firstOf ks k) where
-    pub pair-later : (a ≡ i → ⊥) → false ≡ isPair ks ms k i
-    pair-later g = rw (ne-eqb k dropped h, ← first-places k ks, ← ha, ne-eqb a i g)
+  module _ (h : k ≡ dropped → ⊥) (c : ℕ) (hc : CodeOf ks ms k c) (a : ℕ) (ha : a ≡ leftFirst c) where
+    at-first : firstOf ks k ≡ a
+    at-first = sym (ha ∙ left-first ks ms k c hc)
 
-    pub pair-told : a ≡ i → (b : ℕ) → b ≡ Places.firstOf ms k → ltb b (length ms) ≡ isPair ks ms k i
-    pair-told g b hb = rw (ne-eqb k dropped h, ← first-places k ks, ← ha, eq-eqb a i g, ← first-places k ms, ← hb)
+    pub pair-later : (a ≡ i → ⊥) → false ≡ isPair ks ms k i
+    pair-later g = rw (ne-eqb k dropped h, at-first, ne-eqb a i g)
+
+    pub pair-told : a ≡ i → (b : ℕ) → b ≡ rightFirst c → ltb b (length ms) ≡ isPair ks ms k i
+    pair-told g b hb = rw (ne-eqb k dropped h, at-first, eq-eqb a i g, ← right-first ks ms k c hc, ← hb)
 
   -- where a place pairs, its key stands on both sides, on the left at the place
   module _ (r : Bool) (hr : r ≡ isPair ks ms k i) (h : r ≡ true) where
@@ -50,11 +56,46 @@ module _ (ks ms : List ℕ) (k i : ℕ) where
     pub pair-right : firstOf ms k < length ms
     pair-right = ltb-true (firstOf ms k) (length ms) (tests .1)
 
+-- `ensure_merges`
+
+module _ (allowance p : ℕ) (rows keys : List ℕ) (k first last : ℕ) (level : Level p rows keys) (e : Ends keys k first last) where
+  last-in : last < length keys
+  last-in = ends-within allowance p rows k keys first last e
+
+  pub last-there : last * p + p ≤ length rows
+  last-there = omega (arith, row-in last (length keys) p last-in, level .whole)
+
+  pub first-there : first * p + p ≤ length rows
+  first-there = omega (arith, row-in first (length keys) p (e .stands), level .whole)
+
+  pub last-inside : last ≤ length keys
+  last-inside = omega (arith, last-in)
+
+  pub key-there : firstOf keys k < length keys
+  key-there = rw (← e .first-place) (e .stands)
+
+  module _ (h : first < last) (m : Bool) (hm : mergedIf m (rowAt p rows last) (rowAt p rows first) ≡ merged allowance (rowAt p rows last) (rowAt p rows first)) where
+    pub first-fails : m ≡ false → some first ≡ failureOf (mergeLast allowance p rows keys k)
+    first-fails f = rw (several allowance p rows k keys first last e h, ← hm, f)
+
+    pub two-merge : m ≡ true → (r : Bool) → r ≡ ltb (firstOf (take (last - (first + 1)) (drop (first + 1) keys)) k) (last - (first + 1)) → r ≡ false → none ≡ failureOf (mergeLast allowance p rows keys k)
+    two-merge t r hr f = rw (several-merged allowance p rows k keys first last e h (rw t at hm), none-among allowance p rows k between (suc first) (overwritten (rowAt p rows last) (rowAt p rows first)) none-between)
+      where
+        between : List ℕ
+        between = take (last - suc first) (drop (suc first) keys)
+
+        long : length between ≡ last - suc first
+        long = length-take-le (last - suc first) (drop (suc first) keys) (omega (arith, last-in, length-drop (suc first) keys))
+
+        none-between : length between ≤ firstOf between k
+        none-between = rw long (ltb-false (firstOf between k) (last - suc first) (sym (rw (← add-one first) hr) ∙ f))
+
 -- `ensure_single_timeseries`
 
-module _ (allowance p : ℕ) (rows keys : List ℕ) (k : ℕ) where
-  pub single-fine : (r : Bool) → r ≡ eqb (firstOf keys k) (lastOf keys k) → r ≡ true → none ≡ failureOf (mergeLast allowance p rows keys k)
-  single-fine r hr h = rw (single-row allowance p rows k keys (eqb-true (firstOf keys k) (lastOf keys k) (sym hr ∙ h)))
+pub single-fine : (allowance p : ℕ) (rows keys : List ℕ) (k first last : ℕ) → Ends keys k first last → last ≤ first → none ≡ failureOf (mergeLast allowance p rows keys k)
+single-fine allowance p rows keys k first last e le =
+    let same : firstOf keys k ≡ lastOf keys k = omega (arith, first-last allowance p rows k keys (rw (← e .first-place) (e .stands)), e .first-place, e .last-place, le) in
+    rw (single-row allowance p rows k keys same)
 
 same-failure : (r : Merges) (d : List ℕ) → failedIn r ≡ failureOf (mergesTo r d)
 same-failure Done d = refl
@@ -92,19 +133,19 @@ module _ (allowance p : ℕ) (left lkeys right rkeys : List ℕ) (k : ℕ) (a : 
   abbrev wanted : Option Duplicate
   wanted = pairClash allowance (sidesOf p left lkeys right rkeys) k
 
-  pub check-left : (i kept : ℕ) → a ≡ FailedAt i → kept ≡ Places.lastOf lkeys k → clashIn (C.Left kept i) ≡ pairClash allowance (sidesOf p left lkeys right rkeys) k
-  check-left i kept e hk =
+  pub check-left : (c : ℕ) → CodeOf lkeys rkeys k c → (i kept : ℕ) → a ≡ FailedAt i → kept ≡ leftLast c → clashIn (C.Left kept i) ≡ pairClash allowance (sidesOf p left lkeys right rkeys) k
+  check-left c hc i kept e hk =
       let z : some i ≡ failureOf (mergeLast allowance p left lkeys k) = rw e at ha in
-      rw (← last-places k lkeys, ← hk, ← clash-at Model.left kept i (mergeLast allowance p left lkeys k) z)
+      rw (← left-last lkeys rkeys k c hc, ← hk, ← clash-at Model.left kept i (mergeLast allowance p left lkeys k) z)
 
   module _ (e : a ≡ Done) (b : Merges) (hb : failedIn b ≡ failureOf (mergeLast allowance p right rkeys k)) where
     left-fine : (kept : ℕ) → none ≡ clash Model.left kept (mergeLast allowance p left lkeys k)
     left-fine kept = clash-of Model.left kept (mergeLast allowance p left lkeys k) (rw e at ha)
 
-    pub check-right : (i kept : ℕ) → b ≡ FailedAt i → kept ≡ Places.lastOf rkeys k → clashIn (C.Right kept i) ≡ pairClash allowance (sidesOf p left lkeys right rkeys) k
-    check-right i kept f hk =
+    pub check-right : (c : ℕ) → CodeOf lkeys rkeys k c → (i kept : ℕ) → b ≡ FailedAt i → kept ≡ rightLast c → clashIn (C.Right kept i) ≡ pairClash allowance (sidesOf p left lkeys right rkeys) k
+    check-right c hc i kept f hk =
         let z : some i ≡ failureOf (mergeLast allowance p right rkeys k) = rw f at hb in
-        rw (← left-fine (lastOf lkeys k), ← last-places k rkeys, ← hk) (clash-at Model.right kept i (mergeLast allowance p right rkeys k) z)
+        rw (← left-fine (lastOf lkeys k), ← right-last lkeys rkeys k c hc, ← hk) (clash-at Model.right kept i (mergeLast allowance p right rkeys k) z)
 
     pub check-fine : b ≡ Done → clashIn C.Fine ≡ pairClash allowance (sidesOf p left lkeys right rkeys) k
     check-fine f =

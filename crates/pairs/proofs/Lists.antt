@@ -10,17 +10,16 @@ use lib.Seq.{drop-cons}
 use Rattle.model.specs.Lists.{cases}
 use Rattle.label_edits.specs.Written.{Put}
 use Rattle.label_edits.proofs.Written.{written-none, put-byte-done, Rest, rest-start, rest-put, rest-done}
-use Rattle.key_places.specs.Places as Places
+use Rattle.key_ends.specs.Codes.{CodeOf, leftLast, left-last}
 use Rattle.plan.specs.Keys.{lastOf}
 use Rattle.plan.specs.Pairs.{isPair, pairsFrom}
-use Rattle.merging.specs.Laws.{last-places}
 use Rattle.pairs.specs.Pairing.{pairAt}
 
 -- `list_pair`
 
 module _ (ks ms : List ℕ) (i k : ℕ) (r : Bool) (hr : r ≡ isPair ks ms k i) (d : List ℕ) (n : ℕ) (h : n < length d) where
-  pub list-one : r ≡ true → (v : ℕ) → v ≡ Places.lastOf ks k → Put d n (pairAt ks ms i k) (set d n v) (n + 1)
-  list-one e v hv = rw (← hr, e, ← last-places k ks, ← hv) (put-byte-done d n v (omega arith))
+  pub list-one : r ≡ true → (c : ℕ) → CodeOf ks ms k c → (v : ℕ) → v ≡ leftLast c → Put d n (pairAt ks ms i k) (set d n v) (n + 1)
+  list-one e c hc v hv = rw (← hr, e, ← left-last ks ms k c hc, ← hv) (put-byte-done d n v (omega arith))
 
   pub list-none : r ≡ false → Put d n (pairAt ks ms i k) d n
   list-none e = rw (← hr, e) (record { out = sym (written-none d n (omega arith)); next = omega arith })

@@ -16,6 +16,8 @@ ghost use Rattle.semantics.specs.Binop.{adjustBinaryOpTags};
 ghost use Rattle.plan.specs.Keys.{firstOf};
 ghost use Rattle.plan.specs.Merging.{mergeLast};
 ghost use Rattle.plan.specs.Pairs.{isPair, pairClash, pairsClash, pairsFrom};
+ghost use Rattle.merging.specs.Groups.{Ends};
+ghost use Rattle.key_ends.specs.Codes.{CodeOf, PairEnds};
 ghost use Rattle.answers.specs.Tallies.{TallyOf, recordsOf};
 ghost use Rattle.pairs.specs.Edits.{queryBy, keepsName, InOrder, pairLabels};
 ghost use Rattle.pairs.specs.Pairing.{sidesOf, Level, PairSides, LeftLabels, PlacesIn, failureOf, failedIn, clashIn, clashAt, pairAt, LabelsPut};
@@ -66,18 +68,18 @@ pub fn adjust_binary_op_tags(out: &mut [u8], at: usize, rec: &[u8], q: Query, na
 }
 
 // Whether a left series is the first of a key that stands on both sides.
-fn is_pair(lkeys: &[usize], rkeys: &[usize], i: usize) -> bool
+fn is_pair(lkeys: &[usize], rkeys: &[usize], ends: &[usize], i: usize) -> bool
+    requires { ⌜ PairEnds (now lkeys) (now rkeys) (now ends) ⌝ }
     requires { ⌜ i < length (now lkeys) ⌝ }
     ensures { λ r. ⌜ r ≡ isPair (now (lkeys .entry)) (now (rkeys .entry)) (getD (now (lkeys .entry)) i 0) i ⌝ }
 {
-    let k = lkeys[i];
-    if k == key_places::DROPPED {
+    if lkeys[i] == key_places::DROPPED {
         return false;
     }
-    if key_places::first_of(lkeys, k) != i {
+    if key_ends::left_first(ends[i]) != i {
         return false;
     }
-    key_places::first_of(rkeys, k) < rkeys.len()
+    key_ends::right_first(ends[i]) < rkeys.len()
 }
 
 // The series of a key merged in a work row.
@@ -97,23 +99,49 @@ fn try_last(
     merging::merge_last(rows, keys, k, allowance, &mut work[..p])
 }
 
+// Whether several series of a key become a single one: the first is tried on the last with no copy, and only where others stand between them are all merged in a work row.
+fn ensure_merges(
+    rows: &[u64],
+    keys: &[usize],
+    k: usize,
+    first: usize,
+    last: usize,
+    p: usize,
+    allowance: usize,
+) -> Merges
+    requires { ⌜ Level p (now rows) (now keys) ⌝ }
+    requires { ⌜ Ends (now keys) k first last ⌝ }
+    requires { ⌜ first < last ⌝ }
+    ensures { λ r. ⌜ failedIn r ≡ failureOf (mergeLast allowance p (now (rows .entry)) (now (keys .entry)) k) ⌝ }
+{
+    if merging::row_merges(rows, p, last, first, allowance) {
+        if merging::stands_between(keys, k, first + 1, last) {
+            let mut work = [0u64; 1024];
+            return try_last(rows, keys, k, p, allowance, &mut work);
+        }
+        return Merges::Done;
+    }
+    Merges::FailedAt(first)
+}
+
 // Whether the series of a key on one side become a single one.
 fn ensure_single_timeseries(
     rows: &[u64],
     keys: &[usize],
     k: usize,
+    first: usize,
+    last: usize,
     p: usize,
     allowance: usize,
 ) -> Merges
     requires { ⌜ Level p (now rows) (now keys) ⌝ }
-    requires { ⌜ firstOf (now keys) k < length (now keys) ⌝ }
+    requires { ⌜ Ends (now keys) k first last ⌝ }
     ensures { λ r. ⌜ failedIn r ≡ failureOf (mergeLast allowance p (now (rows .entry)) (now (keys .entry)) k) ⌝ }
 {
-    if merging::is_single(keys, k) {
-        return Merges::Done;
+    if first < last {
+        return ensure_merges(rows, keys, k, first, last, p, allowance);
     }
-    let mut work = [0u64; 1024];
-    try_last(rows, keys, k, p, allowance, &mut work)
+    Merges::Done
 }
 
 // What the merges of both sides of a pair come to.
@@ -130,26 +158,34 @@ fn check_pair(
     right: &[u64],
     rkeys: &[usize],
     k: usize,
+    c: usize,
     p: usize,
     allowance: usize,
 ) -> Checked
     requires { ⌜ PairSides p (now left) (now lkeys) (now right) (now rkeys) ⌝ }
+    requires { ⌜ CodeOf (now lkeys) (now rkeys) k c ⌝ }
     requires { ⌜ firstOf (now lkeys) k < length (now lkeys) ⌝ }
     requires { ⌜ firstOf (now rkeys) k < length (now rkeys) ⌝ }
     ensures { λ r. ⌜ clashIn r ≡ pairClash allowance (sidesOf p (now (left .entry)) (now (lkeys .entry)) (now (right .entry)) (now (rkeys .entry))) k ⌝ }
 {
-    match ensure_single_timeseries(left, lkeys, k, p, allowance) {
-        Merges::FailedAt(failed) => Checked::Left {
-            kept: key_places::last_of(lkeys, k),
-            failed,
-        },
-        Merges::Done => match ensure_single_timeseries(right, rkeys, k, p, allowance) {
-            Merges::FailedAt(failed) => Checked::Right {
-                kept: key_places::last_of(rkeys, k),
-                failed,
-            },
-            Merges::Done => Checked::Fine,
-        },
+    let last = key_ends::left_last(c);
+    match ensure_single_timeseries(left, lkeys, k, key_ends::left_first(c), last, p, allowance) {
+        Merges::FailedAt(failed) => Checked::Left { kept: last, failed },
+        Merges::Done => {
+            let last = key_ends::right_last(c);
+            match ensure_single_timeseries(
+                right,
+                rkeys,
+                k,
+                key_ends::right_first(c),
+                last,
+                p,
+                allowance,
+            ) {
+                Merges::FailedAt(failed) => Checked::Right { kept: last, failed },
+                Merges::Done => Checked::Fine,
+            }
+        }
     }
 }
 
@@ -159,16 +195,18 @@ fn check_at(
     lkeys: &[usize],
     right: &[u64],
     rkeys: &[usize],
+    ends: &[usize],
     i: usize,
     p: usize,
     allowance: usize,
 ) -> Checked
     requires { ⌜ PairSides p (now left) (now lkeys) (now right) (now rkeys) ⌝ }
+    requires { ⌜ PairEnds (now lkeys) (now rkeys) (now ends) ⌝ }
     requires { ⌜ i < length (now lkeys) ⌝ }
     ensures { λ r. ⌜ clashIn r ≡ clashAt allowance (sidesOf p (now (left .entry)) (now (lkeys .entry)) (now (right .entry)) (now (rkeys .entry))) i (getD (now (lkeys .entry)) i 0) ⌝ }
 {
-    if is_pair(lkeys, rkeys, i) {
-        check_pair(left, lkeys, right, rkeys, lkeys[i], p, allowance)
+    if is_pair(lkeys, rkeys, ends, i) {
+        check_pair(left, lkeys, right, rkeys, lkeys[i], ends[i], p, allowance)
     } else {
         Checked::Fine
     }
@@ -180,15 +218,17 @@ pub fn check_pairs(
     lkeys: &[usize],
     right: &[u64],
     rkeys: &[usize],
+    ends: &[usize],
     p: usize,
     allowance: usize,
 ) -> Checked
     requires { ⌜ PairSides p (now left) (now lkeys) (now right) (now rkeys) ⌝ }
+    requires { ⌜ PairEnds (now lkeys) (now rkeys) (now ends) ⌝ }
     ensures { λ r. ⌜ clashIn r ≡ pairsClash allowance (sidesOf p (now (left .entry)) (now (lkeys .entry)) (now (right .entry)) (now (rkeys .entry))) 0 (now (lkeys .entry)) ⌝ }
 {
     let mut i: usize = 0;
     while i < lkeys.len() {
-        match check_at(left, lkeys, right, rkeys, i, p, allowance) {
+        match check_at(left, lkeys, right, rkeys, ends, i, p, allowance) {
             Checked::Fine => {
                 i += 1;
             }
@@ -200,27 +240,36 @@ pub fn check_pairs(
 }
 
 // Notes the left place whose labels an answer series has, if place i gives one.
-fn list_pair(lkeys: &[usize], rkeys: &[usize], i: usize, list: &mut [usize], n: usize) -> usize
+fn list_pair(
+    lkeys: &[usize],
+    rkeys: &[usize],
+    ends: &[usize],
+    i: usize,
+    list: &mut [usize],
+    n: usize,
+) -> usize
+    requires { ⌜ PairEnds (now lkeys) (now rkeys) (now ends) ⌝ }
     requires { ⌜ i < length (now lkeys) ⌝ }
     requires { ⌜ n < length (now list) ⌝ }
     ensures { λ r. ⌜ Put (now (list .entry)) n (pairAt (now (lkeys .entry)) (now (rkeys .entry)) i (getD (now (lkeys .entry)) i 0)) (now (list .exit)) r ⌝ }
 {
-    if is_pair(lkeys, rkeys, i) {
-        list[n] = key_places::last_of(lkeys, lkeys[i]);
+    if is_pair(lkeys, rkeys, ends, i) {
+        list[n] = key_ends::left_last(ends[i]);
         return n + 1;
     }
     n
 }
 
 // Notes the left places whose labels the answer has, in answer order, and gives their number.
-pub fn list_pairs(lkeys: &[usize], rkeys: &[usize], list: &mut [usize]) -> usize
+pub fn list_pairs(lkeys: &[usize], rkeys: &[usize], ends: &[usize], list: &mut [usize]) -> usize
+    requires { ⌜ PairEnds (now lkeys) (now rkeys) (now ends) ⌝ }
     requires { ⌜ length (now lkeys) ≤ length (now list) ⌝ }
     ensures { λ r. ⌜ Put (now (list .entry)) 0 (pairsFrom (now (lkeys .entry)) (now (rkeys .entry)) 0 (now (lkeys .entry))) (now (list .exit)) r ⌝ }
 {
     let mut n: usize = 0;
     let mut i: usize = 0;
     while i < lkeys.len() {
-        n = list_pair(lkeys, rkeys, i, list, n);
+        n = list_pair(lkeys, rkeys, ends, i, list, n);
         i += 1;
     }
     n

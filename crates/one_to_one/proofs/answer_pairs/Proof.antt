@@ -11,7 +11,7 @@ put-pairs-requires c κs =
     let a = c .before .before .before .before in
     let fits = c .before .before .enum-told3 .given .1 in
     let t = a .before .tally-pairs in
-    let start = a .before .before .before .before .before .before .before .before .before .before .before .before in
+    let start = a .before .before .before .before .before .before .before .before .before .before .before .before .before in
     let x = start .args in
     let list = x .list .now in
     let labels = length (x .labels .now) in
@@ -28,7 +28,7 @@ returns-3 : tie.Need-returns-3
 returns-3 c =
     let w = c .before .before .before .before in
     let a = w .before .before .before .before .before in
-    let start = a .before .before .before .before .before .before .before .before .before .before .before .before in
+    let start = a .before .before .before .before .before .before .before .before .before .before .before .before .before in
     answer-put _ _ _ _ _ _ (start .pre .places .few) _ (a .before .tally-pairs .ensures) _ (a .room-for .ensures) (search needs) _ _ _ (w .put-pairs .ensures)
 
 pub answer-pairs-spec : {M : Type 1} → statement M

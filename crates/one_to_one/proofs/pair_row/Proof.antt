@@ -1,7 +1,8 @@
 -- `pair_row` meets its contract. Assumes nothing.
 use mathlib.Core.Path.{sym}
+use Rattle.key_ends.specs.Codes.{right-ends}
 use Rattle.pairs.proofs.Checks.{part-wide}
-use Rattle.one_to_one.proofs.Rows.{side-room, side-wide, with-single-left}
+use Rattle.one_to_one.proofs.Rows.{several-coded, coded-room, coded-wide, coded-single}
 use borrow.Author.Needs.{needs}
 use Rattle.one_to_one.proofs.pair_row.Statement.{statement}
 use Rattle.one_to_one.proofs.pair_row.Tie as tie
@@ -14,12 +15,14 @@ pair-row-spec =
     (λ c. search needs)
     (λ c κs. search needs)
     (λ c κs. search needs)
-    (λ c κs. search side-room)
-    (λ c κs. (search needs, search side-wide))
+    (λ c κs. search coded-room)
+    (λ c κs. search needs)
+    (λ c κs. search needs)
+    (λ c κs. (search needs, (search right-ends, search coded-wide)))
     (λ c. search needs)
-    (λ c. search with-single-left)
+    (λ c. search coded-single)
     (λ c. search needs)
     (λ c. part-wide _ _ (search needs))
-    (λ c κs. (search needs, (search needs, sym (part-wide _ _ (search needs)))))
+    (λ c κs. (search needs, (search needs, (search needs, (search several-coded, sym (part-wide _ _ (search needs)))))))
     (λ c. search needs)
     (λ c. search needs))

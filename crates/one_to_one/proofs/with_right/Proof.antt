@@ -10,14 +10,12 @@ pub with-right-spec : {M : Type 1} → statement M
 with-right-spec =
     tie.close
     (tie.spec
-    (λ c κs. search needs)
-    (λ c κs. search needs)
     (λ c κs. search side-room)
     (λ c κs. (search needs, search side-wide))
     (λ c. search needs)
     (λ c. search with-single-right)
     (λ c. search needs)
     (λ c. part-wide _ _ (search needs))
-    (λ c κs. (search needs, (search needs, sym (part-wide _ _ (search needs)))))
+    (λ c κs. (search needs, (search needs, (search needs, (search needs, sym (part-wide _ _ (search needs)))))))
     (λ c. search needs)
     (λ c. search needs))

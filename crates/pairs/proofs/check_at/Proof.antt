@@ -1,5 +1,6 @@
 -- `check_at` meets its contract. Assumes nothing.
 use Rattle.pairs.proofs.Checks.{pair-left, pair-right, at-pair, at-none}
+use Rattle.key_ends.specs.Codes.{code-at}
 use borrow.Author.Needs.{needs}
 use Rattle.pairs.proofs.check_at.Statement.{statement}
 use Rattle.pairs.proofs.check_at.Tie as tie
@@ -11,6 +12,8 @@ check-at-spec =
     (λ c κs. search needs)
     (λ c. search needs)
     (λ c. search needs)
-    (λ c κs. (search needs, (search pair-left, search pair-right)))
+    (λ c. search needs)
+    (λ c. search needs)
+    (λ c κs. (search needs, (search code-at, (search pair-left, search pair-right))))
     (λ c. search at-pair)
     (λ c. search at-none))

@@ -1,5 +1,6 @@
 -- `check_pair` meets its contract. Assumes nothing.
 use Rattle.pairs.proofs.Checks.{check-left, check-right, check-fine}
+use Rattle.key_ends.specs.Codes.{left-ends, right-ends}
 use borrow.Author.Needs.{needs}
 use Rattle.pairs.proofs.check_pair.Statement.{statement}
 use Rattle.pairs.proofs.check_pair.Tie as tie
@@ -9,12 +10,14 @@ check-pair-spec =
     tie.close
     (tie.spec
     (λ c κs. search needs)
+    (λ c κs. search needs)
+    (λ c κs. (search needs, search left-ends))
+    (λ c. search needs)
     (λ c. search needs)
     (λ c κs. search needs)
-    (λ c. search needs)
     (λ c κs. search needs)
+    (λ c κs. (search needs, search right-ends))
     (λ c. search needs)
-    (λ c κs. search needs)
     (λ c. search needs)
     (λ c. search check-left)
     (λ c. search check-right)

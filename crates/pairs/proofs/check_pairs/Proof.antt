@@ -9,10 +9,10 @@ use Rattle.pairs.proofs.check_pairs.Statement.{statement}
 use Rattle.pairs.proofs.check_pairs.Tie as tie
 
 abbrev Inv-loop : tie.InvT-loop
-Inv-loop left lkeys right rkeys p allowance i₀ i = Checking allowance (sidesOf p left lkeys right rkeys) i
+Inv-loop left lkeys right rkeys ends p allowance i₀ i = Checking allowance (sidesOf p left lkeys right rkeys) i
 
 abbrev μ-loop : tie.MeasureT-loop
-μ-loop left lkeys right rkeys p allowance i₀ i = length lkeys - i
+μ-loop left lkeys right rkeys ends p allowance i₀ i = length lkeys - i
 
 pub check-pairs-spec : {M : Type 1} → statement M
 check-pairs-spec =

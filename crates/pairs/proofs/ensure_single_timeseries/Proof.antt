@@ -9,7 +9,5 @@ ensure-single-timeseries-spec =
     tie.close
     (tie.spec
     (λ c κs. search needs)
-    (λ c. search single-fine)
     (λ c. search needs)
-    (λ c κs. search needs)
-    (λ c. search needs))
+    (λ c. search single-fine))

@@ -1,5 +1,6 @@
 -- `is_pair` meets its contract. Assumes nothing.
 use Rattle.pairs.proofs.Checks.{pair-dropped, pair-later, pair-told}
+use Rattle.key_ends.specs.Codes.{code-at}
 use borrow.Author.Needs.{needs}
 use Rattle.pairs.proofs.is_pair.Statement.{statement}
 use Rattle.pairs.proofs.is_pair.Tie as tie
@@ -11,7 +12,11 @@ is-pair-spec =
     (λ c. search needs)
     (λ c. search needs)
     (λ c. search pair-dropped)
+    (λ c. search needs)
+    (λ c. search needs)
     (λ c κs. search needs)
-    (λ c. search pair-later)
+    (λ c. search (pair-later, code-at))
+    (λ c. search needs)
+    (λ c. search needs)
     (λ c κs. search needs)
-    (λ c. search pair-told))
+    (λ c. search (pair-told, code-at)))

@@ -1,5 +1,6 @@
 -- `list_pair` meets its contract. Assumes nothing.
 use Rattle.pairs.proofs.Lists.{list-one, list-none}
+use Rattle.key_ends.specs.Codes.{code-at}
 use borrow.Author.Needs.{needs}
 use Rattle.pairs.proofs.list_pair.Statement.{statement}
 use Rattle.pairs.proofs.list_pair.Tie as tie
@@ -16,5 +17,5 @@ list-pair-spec =
     (λ c. search needs)
     (λ c. search needs)
     (λ c. search needs)
-    (λ c. search list-one)
+    (λ c. search (list-one, code-at))
     (λ c. search list-none))

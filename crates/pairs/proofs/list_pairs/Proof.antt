@@ -8,10 +8,10 @@ use Rattle.pairs.proofs.list_pairs.Statement.{statement}
 use Rattle.pairs.proofs.list_pairs.Tie as tie
 
 abbrev Inv-loop : tie.InvT-loop
-Inv-loop lkeys rkeys list₀ n₀ i₀ list n i = Listing lkeys rkeys list₀ i list n
+Inv-loop lkeys rkeys ends list₀ n₀ i₀ list n i = Listing lkeys rkeys list₀ i list n
 
 abbrev μ-loop : tie.MeasureT-loop
-μ-loop lkeys rkeys list₀ n₀ i₀ list n i = length lkeys - i
+μ-loop lkeys rkeys ends list₀ n₀ i₀ list n i = length lkeys - i
 
 pub list-pairs-spec : {M : Type 1} → statement M
 list-pairs-spec =
@@ -20,7 +20,7 @@ list-pairs-spec =
     Inv-loop
     μ-loop
     (λ c. search list-starts)
-    (λ c κs. (omega arith, search list-room))
+    (λ c κs. (search needs, (omega arith, search list-room)))
     (λ c. omega arith)
     (λ c. omega arith)
     (λ c. search list-turn)

@@ -1,0 +1,16 @@
+-- `ends_at` meets its contract. Assumes nothing.
+use Rattle.key_ends.proofs.Tables.{first-fits, ends-fit, ends-told}
+use borrow.Author.Needs.{needs}
+use native.Mathlib.Omega.{arith}
+use Rattle.key_ends.proofs.ends_at.Statement.{statement}
+use Rattle.key_ends.proofs.ends_at.Tie as tie
+
+pub ends-at-spec : {M : Type 1} → statement M
+ends-at-spec =
+    tie.close
+    (tie.spec
+    (λ c κs. search needs)
+    (λ c. search first-fits)
+    (λ c κs. search needs)
+    (λ c. search ends-fit)
+    (λ c. search ends-told))

@@ -1,0 +1,16 @@
+-- `first_at` meets its contract. Assumes nothing.
+use Rattle.key_ends.proofs.Tables.{first-table, first-read}
+use borrow.Author.Needs.{needs}
+use native.Mathlib.Omega.{arith}
+use Rattle.key_ends.proofs.first_at.Statement.{statement}
+use Rattle.key_ends.proofs.first_at.Tie as tie
+
+pub first-at-spec : {M : Type 1} → statement M
+first-at-spec =
+    tie.close
+    (tie.spec
+    (λ c. search needs)
+    (λ c. search needs)
+    (λ c. search first-table)
+    (λ c κs. search needs)
+    (λ c. search first-read))
