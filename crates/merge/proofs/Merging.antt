@@ -147,13 +147,13 @@ not-more m n true h = le-ltb n m (leb-true m n h)
 not-more m n false h = lt-ltb n m (leb-false m n h)
 
 module _ (allowance : ℕ) (d s : List ℕ) where
-  pub short-unmerged : length d ≤ 2 → mergedIf false d s ≡ merged allowance d s
+  pub short-unmerged : length d < 3 → mergedIf false d s ≡ merged allowance d s
   unfolding merged
-  short-unmerged h = rw (le-leb (length d) 2 h)
+  short-unmerged h = rw (le-leb (length d) 2 (omega arith))
 
-  pub long-merged : 2 < length d → (n : ℕ) → n ≡ overlaps d s → mergedIf (leb n allowance) d s ≡ merged allowance d s
+  pub long-merged : 3 ≤ length d → (n : ℕ) → n ≡ overlaps d s → mergedIf (leb n allowance) d s ≡ merged allowance d s
   unfolding merged
-  long-merged h n e = rw (lt-leb (length d) 2 h, e, not-more (overlaps d s) allowance (leb (overlaps d s) allowance) refl) (go (leb (overlaps d s) allowance))
+  long-merged h n e = rw (lt-leb (length d) 2 (omega arith), e, not-more (overlaps d s) allowance (leb (overlaps d s) allowance) refl) (go (leb (overlaps d s) allowance))
     where
       go : (b : Bool) → mergedIf b d s ≡ cond (not b) none (some (overwritten d s))
       go true = refl

@@ -72,7 +72,7 @@ pub fn merges(dst: &[u64], src: &[u64], allowance: usize) -> bool
     requires { ⌜ length (now src) ≡ length (now dst) ⌝ }
     ensures { λ r. ⌜ mergedIf r (now (dst .entry)) (now (src .entry)) ≡ merged allowance (now (dst .entry)) (now (src .entry)) ⌝ }
 {
-    if dst.len() <= 2 {
+    if dst.len() < 3 {
         return false;
     }
     overlaps(dst, src) <= allowance

@@ -3,20 +3,13 @@ use merge::Merged;
 ghost use mathlib.Core.Path.{_≡_};
 ghost use Prim.Native.Nat.{_+_, _-_, _*_, _≤_, _<_};
 ghost use mathlib.Core.Bool.{true};
-ghost use lib.Dec.{eqb, ltb};
+ghost use lib.Dec.{ltb};
 ghost use lib.ListN.{length, take, drop};
 ghost use Rattle.model.specs.Row.{merged};
 ghost use Rattle.merge.specs.Merging.{mergedIf};
-ghost use Rattle.plan.specs.Keys.{firstOf, lastOf};
+ghost use Rattle.plan.specs.Keys.{firstOf};
 ghost use Rattle.plan.specs.Merging.{rowAt, mergeGroup, mergeLast, mergeLead};
 ghost use Rattle.merging.specs.Groups.{Ends, AbsorbedAs, MergedGroup};
-
-// Whether a key has one series, which then needs no merging.
-pub fn is_single(keys: &[usize], k: usize) -> bool
-    ensures { λ r. ⌜ r ≡ eqb (firstOf (now (keys .entry)) k) (lastOf (now (keys .entry)) k) ⌝ }
-{
-    key_places::first_of(keys, k) == key_places::last_of(keys, k)
-}
 
 // Whether a key stands between two places.
 pub fn stands_between(keys: &[usize], k: usize, from: usize, to: usize) -> bool
