@@ -10,9 +10,10 @@ use Rattle.model.specs.Lists.{cases, gather}
 use Rattle.model.specs.Labels.{Tag, Labels}
 use Rattle.model.specs.Record.{Decoded, decoded, cut, badKey, decode, encodeField, encodeTags, encode}
 use Rattle.model.specs.Laws.Record.{decode-is}
-use Rattle.vecop_text.specs.Numerals.{digits, digitCount, decimal}
-use Rattle.vecop_text.specs.Text.{isPlain, escaped, escapedAll, tagText, moreTags, tagsText, bracedTags, labelsText, readingText, rowText, lineText, onRecord, linesText, twoNumbers, answerText, refusalText}
-use Rattle.vecop_text.proofs.Numerals.{digits-length}
+use Rattle.vecop_labels.specs.Numerals.{digits, digitCount, decimal}
+use Rattle.vecop_labels.specs.LabelText.{isPlain, escaped, escapedAll, tagText, moreTags, tagsText, bracedTags, labelsText}
+use Rattle.vecop_text.specs.Text.{readingText, rowText, lineText, onRecord, linesText, twoNumbers, answerText, refusalText}
+use Rattle.vecop_labels.proofs.Numerals.{digits-length}
 
 escaped-size : (b : ℕ) → length (escaped b) ≤ 3
 unfolding escaped

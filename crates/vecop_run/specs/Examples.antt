@@ -8,8 +8,9 @@ use Rattle.semantics.specs.Call.{refused}
 use Rattle.semantics.specs.Computing.{computing}
 use Rattle.vecop_frame.specs.Frames.{readPart, framed}
 use Rattle.vecop_frame.specs.Sides.{wordsIn, readingsIn}
-use Rattle.vecop_text.specs.Numerals.{digits, digitCount, decimal}
-use Rattle.vecop_text.specs.Text.{among, escaped, tagText, moreTags, bracedTags, labelsText, readingText, lineText, linesText, twoNumbers, answerText, refusalText, unreadableText, printed}
+use Rattle.vecop_labels.specs.Numerals.{digits, digitCount, decimal}
+use Rattle.vecop_labels.specs.LabelText.{among, escaped, tagText, moreTags, bracedTags, labelsText}
+use Rattle.vecop_text.specs.Text.{readingText, lineText, linesText, twoNumbers, answerText, refusalText, unreadableText, printed}
 use Rattle.vecop_run.specs.Vecop.{vecopText}
 
 -- a theorem that computes a text has `texts` on its `unfolding` line

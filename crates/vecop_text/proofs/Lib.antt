@@ -1,7 +1,4 @@
-pub mod Bytes
-pub mod Numerals
-pub mod Runs
+pub mod Counts
 pub mod Texts
-pub mod Walks
 pub mod Lines
 pub mod Outcomes

@@ -6,7 +6,7 @@ use native.Mathlib.Omega.{arith}
 use native.Mathlib.Nat.{suc-mul}
 use mir.Syntax.{w64}
 use mir.Val.{Fits}
-use lib.ListN.{length, take, drop}
+use lib.ListN.{length, getD, take, drop}
 use lib.Seq.{drop-drop}
 use Rattle.model.specs.Labels.{Labels}
 use Rattle.model.specs.Record.{Decoded, decoded, cut, badKey, decode}
@@ -17,8 +17,8 @@ use Rattle.metric_name.specs.declared.Record.{Record}
 use Rattle.metric_name.specs.declared.Record.the-variants.{Ok, Cut, BadKey}
 use Rattle.label_edits.specs.Written.{Put}
 use Rattle.label_edits.proofs.Written.{Rest, rest-start, rest-done, rest-as}
-use Rattle.vecop_text.specs.Text.{lineText, onRecord, linesText}
-use Rattle.vecop_text.proofs.Runs.{piece-room, piece-put}
+use Rattle.vecop_text.specs.Text.{readingText, lineText, onRecord, linesText}
+use Rattle.vecop_labels.proofs.Runs.{piece-room, piece-put, GatherLeft, gather-room}
 
 pub record LinesLeft (n p : ℕ) (x y d₀ : List ℕ) (at : ℕ) (d : List ℕ) (o from row left : ℕ) : Type 0 where
   pub rows : left * p + row ≤ length y
@@ -111,3 +111,6 @@ module _ (n p : ℕ) (x y d₀ : List ℕ) (at : ℕ) (d : List ℕ) (o from row
             rows = omega (arith, inv .rows, split);
             rest = piece-put d₀ at (linesText n p x y) d o (lineText (labelsOf (take (next - from) (drop from x))) (take (row + p - row) (drop row y))) (linesText (left - 1) p (drop next x) (drop (row + p) y)) lines-left d′ q put;
           }
+
+pub row-room : (s d₀ : List ℕ) (at : ℕ) (d : List ℕ) (i o : ℕ) → i < length s → GatherLeft readingText s d₀ at d i o → o + length (readingText (getD s i 0)) ≤ length d
+row-room s d₀ at d i o h inv = gather-room readingText s d₀ at d i o inv h

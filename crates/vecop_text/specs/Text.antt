@@ -1,57 +1,13 @@
 -- What `vecop` prints for an outcome. Assumes nothing.
 use Prim.Native.Nat.{ℕ, zero, suc}
-use mathlib.Core.Bool.{Bool, false, not, _&&_, _||_, cond}
 use mathlib.Core.List.{List, [], _∷_, _++_}
-use lib.Dec.{leb, eqb}
 use lib.ListN.{take, drop}
 use Rattle.model.specs.Lists.{gather}
-use Rattle.model.specs.Labels.{Tag, Labels}
+use Rattle.model.specs.Labels.{Labels}
 use Rattle.model.specs.Record.{Decoded, decoded, cut, badKey, decode}
 use Rattle.semantics.specs.Call.{Outcome, refused, answered}
-use Rattle.vecop_text.specs.Numerals.{decimal, hexadecimal}
-
-unfoldable pub among : List ℕ → ℕ → Bool
-among [] b = false
-among (k ∷ ks) b = eqb b k || among ks b
-
--- " % , = \ { }
-abbrev pub isSpecial : ℕ → Bool
-isSpecial b = among (34 ∷ 37 ∷ 44 ∷ 61 ∷ 92 ∷ 123 ∷ 125 ∷ []) b
-
--- 21 to 7e (hexadecimal)
-abbrev pub isPlain : ℕ → Bool
-isPlain b = leb 33 b && (leb b 126 && not (isSpecial b))
-
--- 01: Bytes outside 21 to 7e (hexadecimal) and `"` `\` `{` `}` `,` `=` `%` print as % and two lowercase hexadecimal digits.
-unfoldable pub escaped : ℕ → List ℕ
-escaped b = cond (isPlain b) (b ∷ []) (37 ∷ hexadecimal 2 b)
-
-abbrev pub escapedAll : List ℕ → List ℕ
-escapedAll s = gather escaped s
-
-abbrev pub tagOf : List ℕ → List ℕ → Tag
-tagOf key value = record { key = key; value = value }
-
--- 01: tags as key, `=` and the value in double quotes
-unfoldable pub tagText : Tag → List ℕ
-tagText t = escapedAll (t .key) ++ ((61 ∷ 34 ∷ []) ++ (escapedAll (t .value) ++ (34 ∷ [])))
-
--- 01: parted by commas
-unfoldable pub moreTags : List Tag → List ℕ
-moreTags [] = []
-moreTags (t ∷ ts) = ((44 ∷ []) ++ tagText t) ++ moreTags ts
-
-abbrev pub tagsText : List Tag → List ℕ
-tagsText [] = []
-tagsText (t ∷ ts) = tagText t ++ moreTags ts
-
--- 01: braces always
-unfoldable pub bracedTags : List Tag → List ℕ
-bracedTags ts = (123 ∷ []) ++ (tagsText ts ++ (125 ∷ []))
-
--- 01: the name, braces always, tags
-unfoldable pub labelsText : Labels → List ℕ
-labelsText l = escapedAll (l .name) ++ bracedTags (l .tags)
+use Rattle.vecop_labels.specs.Numerals.{decimal, hexadecimal}
+use Rattle.vecop_labels.specs.LabelText.{labelsText}
 
 -- 01: after one space each the readings' bits in sixteen lowercase hexadecimal digits
 unfoldable pub readingText : ℕ → List ℕ

@@ -1,7 +1,7 @@
 -- `vecop_text::digit_count` meets its contract. Assumes nothing.
 use borrow.Author.Needs.{needs}
 use Prim.Native.Nat.{_-_}
-use Rattle.vecop_text.proofs.Numerals.{Counting, count-start, count-turn, count-last, count-full}
+use Rattle.vecop_text.proofs.Counts.{Counting, count-start, count-turn, count-last, count-full}
 use Rattle.vecop_text.proofs.digit_count.Statement.{statement}
 use Rattle.vecop_text.proofs.digit_count.Tie as tie
 

@@ -1,6 +1,6 @@
 -- `vecop_text::put_decimal` meets its contract. Assumes nothing.
 use borrow.Author.Needs.{needs}
-use Rattle.vecop_text.proofs.Numerals.{decimal-room, decimal-put}
+use Rattle.vecop_text.proofs.Counts.{decimal-room, decimal-put}
 use Rattle.vecop_text.proofs.put_decimal.Statement.{statement}
 use Rattle.vecop_text.proofs.put_decimal.Tie as tie
 

@@ -3,7 +3,8 @@ use borrow.Author.Needs.{needs}
 use Rattle.vecop_text.specs.Text.{readingText}
 use lib.ListN.{length}
 use Prim.Native.Nat.{_-_}
-use Rattle.vecop_text.proofs.Runs.{GatherLeft, gather-start, row-room, gather-turn, gather-done}
+use Rattle.vecop_labels.proofs.Runs.{GatherLeft, gather-start, gather-turn, gather-done}
+use Rattle.vecop_text.proofs.Lines.{row-room}
 use Rattle.vecop_text.proofs.put_row.Statement.{statement}
 use Rattle.vecop_text.proofs.put_row.Tie as tie
 

@@ -1,0 +1,5 @@
+pub mod Runs
+pub mod Bytes
+pub mod Numerals
+pub mod Texts
+pub mod Walks
