@@ -13,7 +13,7 @@ loader = importlib.machinery.SourceFileLoader('quote', os.path.join(ROOT, 'quote
 quote = importlib.util.module_from_spec(importlib.util.spec_from_loader('quote', loader))
 loader.exec_module(quote)
 
-VECOP = os.path.join(ROOT, 'target', 'bin', 'vecop')
+VECOP = os.environ.get('VECOP', os.path.join(ROOT, 'target', 'bin', 'vecop'))
 
 
 class Queries(unittest.TestCase):
@@ -80,7 +80,7 @@ class Runs(unittest.TestCase):
             for path, text in zip(paths, (left, right)):
                 with open(path, 'w', encoding='utf-8') as file:
                     file.write(text)
-            status = quote.main([query, *paths, *more])
+            status = quote.main([query, *paths, '--vecop', VECOP, *more])
         return status, out.getvalue(), errors.getvalue()
 
     def test_the_scope_document_s_example(self):
