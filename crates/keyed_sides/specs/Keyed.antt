@@ -46,8 +46,10 @@ pub record Keyed (q : Query) (drops : Bool) (p : ℕ) (array at keys rows array�
   pub rights : KeyedSide p array′ at′ keys′ rows′
   pub numbers : Numbers q drops (sideOf array at p rows) (sideOf array′ at′ p rows′) keys keys′
 
--- under each query with this matching and list
+-- the numbers of the keys by first place, but for series that are dropped; under each query with this matching and list they tell its keys
 pub record NumbersKept (m : Matching) (ns : Names) (drops : Bool) (p : ℕ) (array at keys rows array′ at′ keys′ rows′ : List ℕ) : Type 0 where
+  pub lefts : keys ≡ keptKeys drops p rows (numbers m ns (labelsIn array at) (labelsIn array at))
+  pub rights : keys′ ≡ keptKeys drops p rows′ (numbers m ns (labelsIn array at ++ labelsIn array′ at′) (labelsIn array′ at′))
   pub each : (q : Query) → q .matching ≡ m → q .matchingList ≡ ns → Keyed q drops p array at keys rows array′ at′ keys′ rows′
 
 module _ (q : Query) (p : ℕ) (array at rows keys array′ at′ rows′ keys′ : List ℕ) (l : LentSide p array at rows) (r : LentSide p array′ at′ rows′)
@@ -87,5 +89,7 @@ pub numbers-told : (m : Matching) (ns : Names) (drops : Bool) (p : ℕ) (array a
     → kept ≡ keptKeys drops p rows keys → kept′ ≡ keptKeys drops p rows′ keys′ → NumbersKept m ns drops p array at kept rows array′ at′ kept′ rows′
 numbers-told m ns drops p array at rows keys array′ at′ rows′ keys′ kept kept′ l r n e e′ =
     record {
+      lefts = e ∙ ap (keptKeys drops p rows) (n .lefts);
+      rights = e′ ∙ ap (keptKeys drops p rows′) (n .rights);
       each = λ q hm hn. rw (e, e′) (keyed-sides q p array at rows keys array′ at′ rows′ keys′ l r (rw (hm, hn) n) drops);
     }
