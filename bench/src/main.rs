@@ -190,9 +190,10 @@ fn checked(w: &Workload) -> &'static str {
 
 fn main() {
     let turns = std::env::args().nth(1).map_or(101, |n| n.parse().expect("a number of turns"));
+    let part = std::env::args().nth(2).unwrap_or_default();
     println!("{turns} turns, in microseconds: medians and their ratio, the fastest turns and their ratio");
     println!("{:>9} {:>9} {:>6}  {:>9} {:>9} {:>6}  workload", "Rust", "library", "ratio", "Rust", "library", "ratio");
-    for w in workloads() {
+    for w in workloads().into_iter().filter(|w| w.name.contains(&part)) {
         let note = checked(&w);
         let (rust, library) = measure(&w.call, turns);
         let column = |rust: f64, library: Option<f64>| match library {
