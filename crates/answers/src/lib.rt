@@ -1,5 +1,6 @@
 // What the answers of all operators share: their outcome, what they take and whether it fits, and a row copied.
 use label_edits::Size;
+use operator::Operator;
 ghost use mathlib.Core.Path.{_≡_};
 ghost use Prim.Native.Nat.{_+_, _*_, _≤_, _<_};
 ghost use lib.ListN.{length};
@@ -56,7 +57,7 @@ pub fn tallied(t: Tally, s: Size) -> Tally
     }
     Tally {
         bytes,
-        wide: 32 < s.tags,
+        wide: Operator::MAX_TAGS < s.tags,
     }
 }
 
@@ -75,7 +76,7 @@ pub fn room_for(series: usize, points: usize, t: Tally, labels: usize, readings:
     if t.wide {
         return Room::TooLarge;
     }
-    if 65535 < t.bytes {
+    if Operator::MAX_LABEL_BYTES < t.bytes {
         return Room::TooLarge;
     }
     if labels < t.bytes {

@@ -1,4 +1,5 @@
 // The name of a join's edited record: chosen, measured, and written at its place.
+use operator::Operator;
 ghost use mathlib.Core.Path.{_≡_};
 ghost use mathlib.Core.Bool.{cond};
 ghost use Prim.Native.Nat.{_+_, _≤_};
@@ -19,10 +20,10 @@ pub enum Naming {
 pub fn naming_of(join: &[u8], skip: &[u8], reset: bool) -> Naming
     ensures { λ r. ⌜ r ≡ namingOf (namesOf (now (join .entry))) (namesOf (now (skip .entry))) reset ⌝ }
 {
-    if labels::in_list(skip, b"__name__") {
+    if labels::in_list(skip, &Operator::METRIC_NAME) {
         return base_naming(reset);
     }
-    if labels::in_list(join, b"__name__") {
+    if labels::in_list(join, &Operator::METRIC_NAME) {
         return Naming::Source;
     }
     base_naming(reset)

@@ -3,6 +3,7 @@ use answers::Tally;
 use label_edits::Size;
 use labels::Matching;
 use merging::Merges;
+use operator::Operator;
 use query::Query;
 ghost use mathlib.Core.Path.{_≡_};
 ghost use Prim.Native.Nat.{_+_, _≤_, _<_};
@@ -30,7 +31,7 @@ fn keeps_name(q: Query, names: &[u8]) -> bool
     ensures { λ r. ⌜ r ≡ keepsName (queryBy (now (names .entry)) q) ⌝ }
 {
     let matching = q.matching;
-    if query::resets_name(q) {
+    if query::should_reset_metric_group(q) {
         return false;
     }
     match matching {
@@ -39,10 +40,10 @@ fn keeps_name(q: Query, names: &[u8]) -> bool
             if q.keep_names {
                 true
             } else {
-                labels::in_list(names, b"__name__")
+                labels::in_list(names, &Operator::METRIC_NAME)
             }
         }
-        Matching::Ignoring => !labels::in_list(names, b"__name__"),
+        Matching::Ignoring => !labels::in_list(names, &Operator::METRIC_NAME),
     }
 }
 

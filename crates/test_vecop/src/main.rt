@@ -55,6 +55,6 @@ fn read(input: &mut [u8], text: &mut [u8])
 
 fn main() {
     let mut input = [0u8; 524288];
-    let mut text = [0u8; 335918];
+    let mut text = [0u8; vecop_run::MAX_TEXT];
     read(&mut input, &mut text);
 }

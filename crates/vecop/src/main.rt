@@ -16,6 +16,6 @@ fn run(input: &mut [u8], text: &mut [u8])
 // The input's buffer holds a byte more than an input may have.
 fn main() {
     let mut input = [0u8; 65537];
-    let mut text = [0u8; 335918];
+    let mut text = [0u8; vecop_run::MAX_TEXT];
     run(&mut input, &mut text);
 }
