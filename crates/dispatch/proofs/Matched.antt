@@ -10,6 +10,7 @@ use Rattle.operator.specs.Kinds.{kindOf}
 use Rattle.operator.specs.Operators.{isLogicalOp}
 use Rattle.model.specs.Labels.{Labels}
 use Rattle.model.specs.Query as Model
+use Rattle.model.specs.Query.{resets}
 use Rattle.semantics.specs.Binop.{allowedOverlaps, adjustBinaryOpTags, skipList}
 use Rattle.semantics.specs.Call as Call
 use Rattle.plan.specs.Conclude.{conclude}
@@ -20,10 +21,9 @@ use Rattle.labels.specs.Matchings.{matchingOf}
 use Rattle.labels.specs.Names.{namesOf}
 use Rattle.query.specs.declared.Join.the-variants as J
 use Rattle.query.specs.declared.Query.{Query}
-use Rattle.query.specs.Queries.{queryOf, joinOf, resets, matchingPart, joinPart}
+use Rattle.query.specs.Queries.{queryOf, joinOf, matchingPart, joinPart}
 use Rattle.naming.specs.declared.Naming.{Naming}
 use Rattle.naming.specs.Namings.{namingOf}
-use Rattle.pairs.proofs.Edits.{by-kind}
 use Rattle.join_rows.specs.declared.Work.{Work}
 use Rattle.joins.specs.Joined.{WorkOf, Joined}
 use Rattle.timeseries.specs.Sides.{labelsIn}
@@ -98,7 +98,7 @@ module _ (s : List ℕ) (q : Query) (left : Bool) (p : ℕ) (array at keys rows 
         lists = record { joins = ap namesOf (sym (join-part s (q .«join_at»))); skips = sym hs };
         operator = refl;
         bool = refl;
-        naming = ap (namingOf (namesOf join) (namesOf skip)) (by-kind (kindOf (q .operator)) (q .«keep_names») (q .bool));
+        naming = refl;
       }) in
       let side : w .left ≡ left = ap (λ (x : Work). x .left) hw in
       rw side at (j .each (queryOf s q) asked)

@@ -4,11 +4,11 @@ use mathlib.Core.Bool.{Bool}
 use mathlib.Core.List.{List, map}
 use Rattle.model.specs.Edits.{Names}
 use Rattle.model.specs.Query as Model
+use Rattle.model.specs.Query.{resets}
 use Rattle.semantics.specs.Call.{Outcome}
 use Rattle.plan.specs.Conclude.{conclude}
 use Rattle.plan.specs.Joins.{joinClash, joinRowsFrom, joinSeries}
 use Rattle.query.specs.declared.Query.{Query}
-use Rattle.query.specs.Queries.{resets}
 use Rattle.naming.specs.Namings.{namingOf}
 use Rattle.timeseries.specs.Sides.{labelsIn}
 use Rattle.join_rows.specs.declared.Work.{Work}

@@ -177,7 +177,7 @@ fn work_of(q: Query, left: bool, join: &[u8], skip: &[u8]) -> Work
     ensures { λ r. ⌜ r ≡ workOf (namesOf (now (join .entry))) (namesOf (now (skip .entry))) left q ⌝ }
 {
     let operator = q.operator;
-    let reset = query::resets_name(q);
+    let reset = query::should_reset_metric_group(q);
     Work {
         operator,
         bool: q.bool,

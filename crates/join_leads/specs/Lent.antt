@@ -6,8 +6,8 @@ use lib.ListN.{length}
 use Rattle.model.specs.Limits.{maxSeries, maxLabelBytes}
 use Rattle.model.specs.Labels.{Labels, WellFormed}
 use Rattle.model.specs.Edits.{Names}
-use Rattle.model.specs.Query.{Query}
-use Rattle.semantics.specs.Binop.{shouldResetMetricGroup, skipList, joinedLabels}
+use Rattle.model.specs.Query.{Query, shouldResetMetricGroup}
+use Rattle.semantics.specs.Binop.{skipList, joinedLabels}
 use Rattle.metric_name.specs.Lenient.{labelsOf}
 use Rattle.edited_tags.specs.Streams.{editedTags}
 use Rattle.naming.specs.Namings.{namingOf}

@@ -8,10 +8,9 @@ use lib.ListN.{length, take}
 use Rattle.model.specs.Limits.{maxSeries}
 use Rattle.model.specs.Labels.{Labels}
 use Rattle.model.specs.Edits.{Names}
-use Rattle.model.specs.Query.{Query, Side}
+use Rattle.model.specs.Query.{Query, Side, shouldResetMetricGroup}
 use Rattle.model.specs.Vector.{Shape}
 use Rattle.semantics.specs.Call.{fit}
-use Rattle.semantics.specs.Binop.{shouldResetMetricGroup}
 use Rattle.plan.specs.Conclude.{conclude}
 use Rattle.plan.specs.Joins.{joinClash, joinRowsFrom, joinSeries}
 use Rattle.naming.specs.Namings.{namingOf}

@@ -1,10 +1,11 @@
 -- Sides, a query taken from bytes, and the key of a series under its matching. Assumes nothing.
 use Prim.Native.Nat.{ℕ, zero, suc}
-use mathlib.Core.Bool.{Bool, true, false, _&&_, _||_, cond}
+use mathlib.Core.Bool.{Bool, true, false, not, _&&_, _||_, cond}
 use mathlib.Core.Option.{Option, none, some}
 use mathlib.Core.List.{List, [], _∷_}
 use lib.Dec.{leb, eqb}
 use Rattle.operator.specs.declared.Operator.{Operator}
+use Rattle.operator.specs.Kinds.{Kind, arithmetic, comparison, setRule, fallback, notCarried, kindOf}
 use Rattle.operator.specs.Operators.{operatorOf, isCarried}
 use Rattle.model.specs.Limits.{maxListed}
 use Rattle.model.specs.Lists.{isEmpty}
@@ -41,6 +42,22 @@ keyOf ignoring ns ts = tagsIgnoring ns ts
 unfoldable pub sameKey : Query → Labels → Labels → Bool
 sameKey q l m =
     sameTags (keyOf (q .matching) (q .matchingList) (l .tags)) (keyOf (q .matching) (q .matchingList) (m .tags))
+
+-- names of answers
+
+abbrev pub kindResets : Kind → Bool → Bool → Bool
+kindResets (arithmetic k) keepNames bool = not keepNames
+kindResets (comparison c) keepNames bool = bool && not keepNames
+kindResets (setRule s) keepNames bool = false
+kindResets (fallback s) keepNames bool = false
+kindResets notCarried keepNames bool = not keepNames
+
+abbrev pub resets : Operator → Bool → Bool → Bool
+resets o keepNames bool = kindResets (kindOf o) keepNames bool
+
+-- 01: its name cleared where `should_reset_metric_group` says. By arithmetic, and by a comparison with bool, unless names are kept.
+abbrev pub shouldResetMetricGroup : Query → Bool
+shouldResetMetricGroup q = resets (q .operator) (q .keepNames) (q .bool)
 
 -- taking
 

@@ -5,14 +5,12 @@ use mathlib.Core.Bool.{Bool, true, false, not, _&&_, _||_, cond}
 use mathlib.Core.List.{List, [], _∷_}
 use native.Mathlib.Omega.{arith}
 use lib.ListN.{length}
-use Rattle.operator.specs.Kinds.{Kind, arithmetic, comparison, setRule, fallback, notCarried, kindOf}
-use Rattle.operator.specs.Operators.{compares, joinsSets}
 use Rattle.model.specs.Lists.{cases, keep}
 use Rattle.model.specs.Labels.{Tag, Labels, sameBytes, below, nameLabel, mayFollow, ascending}
 use Rattle.model.specs.Record.{encode}
 use Rattle.model.specs.Edits.{Names, isListed, tagsOn, tagsIgnoring, removeTagsOn, removeTagsIgnoring, clearNameIf}
 use Rattle.model.specs.Query as Model
-use Rattle.model.specs.Query.{keyOf}
+use Rattle.model.specs.Query.{keyOf, resets, shouldResetMetricGroup}
 use Rattle.model.specs.Laws.Booleans.{both-of, never}
 use Rattle.model.specs.Laws.Order.{same-is, same-refl, is-same}
 use Rattle.labels.specs.Names.{namesOf}
@@ -22,31 +20,14 @@ use Rattle.label_edits.specs.Written.{Put}
 use Rattle.label_edits.specs.Edited.{kept, Sized}
 use Rattle.label_edits.specs.declared.Size.{Size}
 use Rattle.query.specs.declared.Query.{Query}
-use Rattle.query.specs.Queries.{resetsOfKind, resets}
-use Rattle.semantics.specs.Binop.{shouldResetMetricGroup, editedBy, adjustBinaryOpTags}
+use Rattle.semantics.specs.Binop.{editedBy, adjustBinaryOpTags}
 use Rattle.pairs.specs.Edits.{queryBy, leavesName, keepsName, InOrder}
-
--- `should_reset_metric_group`
-
-pub by-kind : (kind : Kind) (k b : Bool) → resetsOfKind kind k b ≡ cond (compares kind && not b) false (cond k false (not (joinsSets kind)))
-by-kind (arithmetic a) true b = refl
-by-kind (arithmetic a) false b = refl
-by-kind (comparison c) true true = refl
-by-kind (comparison c) true false = refl
-by-kind (comparison c) false true = refl
-by-kind (comparison c) false false = refl
-by-kind (setRule s) true b = refl
-by-kind (setRule s) false b = refl
-by-kind (fallback s) true b = refl
-by-kind (fallback s) false b = refl
-by-kind notCarried true b = refl
-by-kind notCarried false b = refl
 
 -- `keeps_name`
 
 module _ (names : List ℕ) (q : Query) (r : Bool) (hr : r ≡ resets (q .operator) (q .«keep_names») (q .bool)) where
   told : r ≡ shouldResetMetricGroup (queryBy names q)
-  told = hr ∙ by-kind (kindOf (q .operator)) (q .«keep_names») (q .bool)
+  told = hr
 
   pub keeps-reset : r ≡ true → false ≡ keepsName (queryBy names q)
   keeps-reset h = rw (← told, h)

@@ -7,11 +7,12 @@ use lib.ListN.{getD}
 use Rattle.model.specs.Labels.{Labels, nameLabel, ascending}
 use Rattle.model.specs.Edits.{Names, isListed}
 use Rattle.model.specs.Query as Model
+use Rattle.model.specs.Query.{shouldResetMetricGroup}
 use Rattle.labels.specs.Names.{namesOf}
 use Rattle.labels.specs.Matchings.{matchingOf}
 use Rattle.query.specs.declared.Query.{Query}
 use Rattle.query.specs.Queries.{joinOf}
-use Rattle.semantics.specs.Binop.{shouldResetMetricGroup, adjustBinaryOpTags}
+use Rattle.semantics.specs.Binop.{adjustBinaryOpTags}
 use Rattle.plan.specs.Pairs.{noLabels}
 
 -- the query that the code's stands for, with the bytes of its matching list; no join list is looked at

@@ -1,12 +1,10 @@
 -- The code's query and its answers, as those of the definitions. Assumes nothing.
 use Prim.Native.Nat.{ℕ, _-_, _<_}
 use mathlib.Core.Path.{_≡_}
-use mathlib.Core.Bool.{Bool, true, false, not, _&&_, cond}
+use mathlib.Core.Bool.{Bool, cond}
 use mathlib.Core.List.{List}
 use lib.Dec.{eqb}
 use lib.ListN.{length, getD, take, drop}
-use Rattle.operator.specs.declared.Operator.{Operator}
-use Rattle.operator.specs.Kinds.{Kind, arithmetic, comparison, setRule, fallback, notCarried, kindOf}
 use Rattle.model.specs.Lists.{isEmpty}
 use Rattle.model.specs.Edits.{Names}
 use Rattle.model.specs.Query as Model
@@ -97,18 +95,3 @@ pub record Counts (s : List ℕ) (joinAt : ℕ) : Type 0 where
 pub record ListsAt (s : List ℕ) (r : ListEnd) : Type 0 where
   pub same : listsOf s r ≡ listsIn (drop 4 s)
   pub counts : (at : ℕ) → r ≡ Until at → Counts s at
-
--- 01: its name cleared where `should_reset_metric_group` says: by arithmetic, and by a comparison with bool, unless names are kept.
--- (belongs to model)
-abbrev pub resetsOfKind : Kind → Bool → Bool → Bool
-resetsOfKind (arithmetic k) keepNames bool = not keepNames
-resetsOfKind (comparison c) keepNames bool = bool && not keepNames
-resetsOfKind (setRule s) keepNames bool = false
-resetsOfKind (fallback s) keepNames bool = false
-resetsOfKind notCarried keepNames bool = not keepNames
-
-abbrev pub resets : Operator → Bool → Bool → Bool
-resets o keepNames bool = resetsOfKind (kindOf o) keepNames bool
-
-abbrev pub resetsName : Model.Query → Bool
-resetsName q = resets (q .operator) (q .keepNames) (q .bool)

@@ -5,8 +5,9 @@ ghost use Prim.Native.Nat.{_≤_, _<_};
 ghost use lib.Dec.{eqb};
 ghost use lib.ListN.{length, drop};
 ghost use Rattle.model.specs.Query as Model;
+ghost use Rattle.model.specs.Query.{resets};
 ghost use Rattle.labels.specs.Matchings.{matchingOf};
-ghost use Rattle.query.specs.Queries.{joinOf, endOf, ListsAt, TakenAs, resets};
+ghost use Rattle.query.specs.Queries.{joinOf, endOf, ListsAt, TakenAs};
 use labels::Matching;
 use labels::Place;
 use operator::Coded;
@@ -202,8 +203,8 @@ pub fn take_query(s: &[u8]) -> Request
     }
 }
 
-// Whether the names of an answer's series are cleared: the Rust's `should_reset_metric_group`.
-pub fn resets_name(q: Query) -> bool
+// Whether the names of an answer's series are cleared.
+pub fn should_reset_metric_group(q: Query) -> bool
     ensures { λ r. ⌜ r ≡ resets (q .operator) (q .«keep_names») (q .bool) ⌝ }
 {
     let operator = q.operator;

@@ -5,13 +5,12 @@ use mathlib.Core.Option.{Option, none, some}
 use mathlib.Core.List.{List, [], _∷_}
 use lib.ListN.{getD}
 use Rattle.operator.specs.Kinds.{Kind, arithmetic, comparison, setRule, fallback, notCarried, SetRule, whereFound, whereNone, filled}
-use Rattle.operator.specs.Operators.{isComparison, isLogicalOp}
 use Rattle.model.specs.Lists.{isEmpty}
 use Rattle.model.specs.Reading.{missing, noReading, scalarOp}
 use Rattle.model.specs.Row.{onlyMissing, zipWith, twoOverlaps}
 use Rattle.model.specs.Labels.{Labels, nameLabel}
 use Rattle.model.specs.Edits.{Names, clearNameIf, removeTagsOn, removeTagsIgnoring, setTags}
-use Rattle.model.specs.Query.{Query, Matching, all, on, ignoring, Join, oneToOne, group, Side, left, right}
+use Rattle.model.specs.Query.{Query, shouldResetMetricGroup, Matching, all, on, ignoring, Join, oneToOne, group, Side, left, right}
 use Rattle.model.specs.Vector.{Series}
 use Rattle.semantics.specs.Places.{Place, Placed, numbered}
 use Rattle.semantics.specs.Events.{Rule}
@@ -19,11 +18,6 @@ use Rattle.semantics.specs.Rules as Rules
 use Rattle.semantics.specs.Rules.{plain, joined, setRuleOf, dropping}
 
 -- labels and rows of arithmetic and comparisons
-
--- the Rust's `should_reset_metric_group`: where an answer's name is cleared
-abbrev pub shouldResetMetricGroup : Query → Bool
-shouldResetMetricGroup q =
-    cond (isComparison (q .operator) && not (q .bool)) false (cond (q .keepNames) false (not (isLogicalOp (q .operator))))
 
 abbrev pub editedBy : Matching → Names → Bool → Labels → Labels
 editedBy all names keepNames l = removeTagsIgnoring [] l

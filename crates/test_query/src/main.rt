@@ -55,7 +55,7 @@ fn print_query(q: Query) {
     print_join(join);
     print_flag(q.keep_names);
     print_flag(q.bool);
-    print_flag(query::resets_name(q));
+    print_flag(query::should_reset_metric_group(q));
     print_number(q.join_at);
     io::write_all(1, b"\n");
 }

@@ -19,7 +19,7 @@ use Rattle.model.specs.Reading.{missing, noReading, calculated, holds, oneOrZer
 use Rattle.model.specs.Row.{onlyMissing, zipWith, merged, overwritten, overlaps}
 use Rattle.model.specs.Labels.{Labels, WellFormed}
 use Rattle.model.specs.Edits.{Names}
-use Rattle.model.specs.Query.{Query, Matching, all, on, ignoring, Join, oneToOne, group, Side, left, right}
+use Rattle.model.specs.Query.{Query, shouldResetMetricGroup, Matching, all, on, ignoring, Join, oneToOne, group, Side, left, right}
 use Rattle.model.specs.Vector.{Series, Shape, Vector, vector, takeVector, sizesOf, labelPart, labelBytes, readingsOf, Readings, GoodSeries, Valid}
 use Rattle.model.specs.Laws.Booleans.{neither-of}
 use Rattle.model.specs.Laws.Lists.{All-map, All-append}
@@ -28,7 +28,7 @@ use Rattle.model.specs.Laws.Vector.{take-valid, readings-length, labels-bytes, 
 use Rattle.semantics.specs.Places.{Placed, numbered, placed, Rank}
 use Rattle.semantics.specs.Events.{Ranked, Verdict, answer, duplicate}
 use Rattle.semantics.specs.Rules.{withRow, mergedInto}
-use Rattle.semantics.specs.Binop.{shouldResetMetricGroup, editedBy, adjustBinaryOpTags, paired, skipList, joinedLabels, joinedPair, joinRows, joinWork, allowedOverlaps, matchedRule, Found, firstReading, someReading, filledFrom, setReading, pointwise, unlessOnlyMissing, staying, met, alone, adds, Seen, unmatched, scalarSide, isBare, look, ruleOf}
+use Rattle.semantics.specs.Binop.{editedBy, adjustBinaryOpTags, paired, skipList, joinedLabels, joinedPair, joinRows, joinWork, allowedOverlaps, matchedRule, Found, firstReading, someReading, filledFrom, setReading, pointwise, unlessOnlyMissing, staying, met, alone, adds, Seen, unmatched, scalarSide, isBare, look, ruleOf}
 use Rattle.semantics.specs.Call.{refused, answered, concluded, verdict, fit, overTags}
 use Rattle.theorems.specs.Laws.Sound.{Each, Keeps, Sure, Holds, run-holds, dropping-keeps, one-to-one-keeps, joined-keeps, set-rule-keeps}
 use Rattle.theorems.specs.Claims.Outcomes.{written, seriesIn}

@@ -4,12 +4,12 @@ use Rattle.dispatch.proofs.work_of.Statement.{statement}
 use Rattle.dispatch.proofs.work_of.Tie as tie
 use Rattle.dispatch.proofs.work_of.Reads as reads
 use Rattle.dispatch.proofs.work_of.Lts as lts
-use Rattle.query.proofs.resets_name.Reads as resets-name-reads
+use Rattle.query.proofs.should_reset_metric_group.Reads as should-reset-metric-group-reads
 use Rattle.naming.proofs.naming_of.Reads as naming-of-reads
 
 -- src/lib.rt:323:9
-resets-name-requires : tie.Need-resets-name-requires
-resets-name-requires c κs = search needs
+should-reset-metric-group-requires : tie.Need-should-reset-metric-group-requires
+should-reset-metric-group-requires c κs = search needs
 
 -- src/lib.rt:328:17
 naming-of-requires : tie.Need-naming-of-requires
@@ -20,4 +20,4 @@ returns : tie.Need-returns
 returns c = search work-is
 
 pub work-of-spec : {M : Type 1} → statement M
-work-of-spec = tie.close (tie.spec resets-name-requires naming-of-requires returns)
+work-of-spec = tie.close (tie.spec should-reset-metric-group-requires naming-of-requires returns)

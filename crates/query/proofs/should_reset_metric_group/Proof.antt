@@ -1,13 +1,13 @@
--- `resets_name` meets its contract: each return has the tests that led there. Assumes nothing.
+-- `should_reset_metric_group` meets its contract: each return has the tests that led there. Assumes nothing.
 use mathlib.Core.Path.{_≡_, refl, sym, _∙_}
 use mathlib.Core.Bool.{Bool, true, false, _&&_}
 use Rattle.operator.specs.Kinds.{Kind, arithmetic, comparison, setRule, fallback, notCarried, kindOf}
 use Rattle.operator.specs.Operators.{compares, joinsSets}
-use Rattle.query.specs.Queries.{resetsOfKind}
-use Rattle.query.proofs.resets_name.Statement.{statement}
-use Rattle.query.proofs.resets_name.Tie as tie
+use Rattle.model.specs.Query.{kindResets}
+use Rattle.query.proofs.should_reset_metric_group.Statement.{statement}
+use Rattle.query.proofs.should_reset_metric_group.Tie as tie
 
-kept : (k : Kind) (keep bool : Bool) → keep ≡ true → false ≡ resetsOfKind k keep bool
+kept : (k : Kind) (keep bool : Bool) → keep ≡ true → false ≡ kindResets k keep bool
 kept (arithmetic a) keep bool e = rw e
 kept (comparison c) keep true e = rw e
 kept (comparison c) keep false e = refl
@@ -15,7 +15,7 @@ kept (setRule s) keep bool e = refl
 kept (fallback s) keep bool e = refl
 kept notCarried keep bool e = rw e
 
-logical : (k : Kind) (keep bool : Bool) → joinsSets k ≡ true → false ≡ resetsOfKind k keep bool
+logical : (k : Kind) (keep bool : Bool) → joinsSets k ≡ true → false ≡ kindResets k keep bool
 logical (arithmetic a) keep bool e = cc
 logical (comparison c) keep bool e = cc
 logical (setRule s) keep bool e = refl
@@ -23,7 +23,7 @@ logical (fallback s) keep bool e = refl
 logical notCarried keep bool e = cc
 
 module _ (keep bool : Bool) (e : keep ≡ false) where
-  compared : (k : Kind) → compares k ≡ true → bool ≡ resetsOfKind k keep bool
+  compared : (k : Kind) → compares k ≡ true → bool ≡ kindResets k keep bool
   compared (arithmetic a) h = cc
   compared (comparison c) h = rw e (both bool)
     where
@@ -34,7 +34,7 @@ module _ (keep bool : Bool) (e : keep ≡ false) where
   compared (fallback s) h = cc
   compared notCarried h = cc
 
-  cleared : (k : Kind) → joinsSets k ≡ false → compares k ≡ false → true ≡ resetsOfKind k keep bool
+  cleared : (k : Kind) → joinsSets k ≡ false → compares k ≡ false → true ≡ kindResets k keep bool
   cleared (arithmetic a) j h = rw e
   cleared (comparison c) j h = cc
   cleared (setRule s) j h = cc
@@ -63,5 +63,5 @@ returns-4 c =
     (sym (c .before .before .before .is-logical-op .ensures) ∙ c .before .before .if2 .left)
     (sym (c .before .is-comparison .ensures) ∙ c .if3 .left)
 
-pub resets-name-spec : {M : Type 1} → statement M
-resets-name-spec = tie.close (tie.spec returns (λ c κs. tt) returns-2 (λ c κs. tt) returns-3 returns-4)
+pub should-reset-metric-group-spec : {M : Type 1} → statement M
+should-reset-metric-group-spec = tie.close (tie.spec returns (λ c κs. tt) returns-2 (λ c κs. tt) returns-3 returns-4)
