@@ -133,26 +133,16 @@ fn has_key(
     requires { ⌜ h ≡ hashOf (recordKey (matchingOf matching) (now list) (now rec)) ⌝ }
     ensures { λ r. ⌜ r ≡ sameKeys (matchingOf matching) (namesOf (now (list .entry))) (getD (labelsIn (now (left .entry)) (now («left_at» .entry)) ++ labelsIn (now (array .entry)) (now (at .entry))) j (labelsOf [])) (labelsOf (now (rec .entry))) ⌝ }
 {
-    let n = left_hashes.len();
-    if j < n {
-        return same_key(
-            left_hashes[j],
-            timeseries::record(left, left_at, j),
-            h,
-            rec,
-            matching,
-            list,
-        );
+    let before = left_hashes.len();
+    if j < before {
+        let g = left_hashes[j];
+        let there = timeseries::record(left, left_at, j);
+        return same_key(g, there, h, rec, matching, list);
     }
-    let k = j - n;
-    same_key(
-        hashes[k],
-        timeseries::record(array, at, k),
-        h,
-        rec,
-        matching,
-        list,
-    )
+    let k = j - before;
+    let g = hashes[k];
+    let own = timeseries::record(array, at, k);
+    same_key(g, own, h, rec, matching, list)
 }
 
 // The number of a record's key, by the place noted for its hash: none before it has the key. Only where the series there has another key is it searched for.
