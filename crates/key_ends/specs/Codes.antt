@@ -39,7 +39,15 @@ pub record PairEnds (lkeys rkeys ends : List ℕ) : Type 0 where
   pub room : length lkeys ≤ length ends
   pub each : (i : ℕ) → i < length lkeys → getD ends i 0 ≡ pairCode lkeys rkeys (getD lkeys i 0)
 
--- read off a code
+-- read off the code of a side
+
+abbrev pub sideFirst : ℕ → ℕ
+sideFirst c = c / 1024
+
+abbrev pub sideLast : ℕ → ℕ
+sideLast c = c % 1024
+
+-- read off the code of both
 
 abbrev pub leftFirst : ℕ → ℕ
 leftFirst c = c / 1073741824
@@ -59,6 +67,22 @@ module _ (keys : List ℕ) (few : length keys ≤ 512) (k : ℕ) where
 
   pub last-small : lastOf keys k ≤ 512
   last-small = omega (arith, last-most k keys)
+
+-- the code of the key k on a side within the limit
+pub record EndsOf (keys : List ℕ) (k c : ℕ) : Type 0 where
+  pub few : length keys ≤ 512
+  pub code : c ≡ endsCode keys k
+
+module _ (keys : List ℕ) (k c : ℕ) (h : EndsOf keys k c) where
+  pub side-first : sideFirst c ≡ firstOf keys k
+  side-first = omega (arith, h .code, first-small keys (h .few) k, last-small keys (h .few) k)
+
+  pub side-last : sideLast c ≡ lastOf keys k
+  side-last = omega (arith, h .code, first-small keys (h .few) k, last-small keys (h .few) k)
+
+-- each place that is asked for has the code of its key
+pub ends-at : (keys asked ends : List ℕ) → length keys ≤ 512 → SideEnds keys asked ends → (i : ℕ) → i < length asked → EndsOf keys (getD asked i 0) (getD ends i 0)
+ends-at keys asked ends few e i h = record { few = few; code = e .each i h }
 
 -- a code of the key k, of sides within the limit
 pub record CodeOf (lkeys rkeys : List ℕ) (k c : ℕ) : Type 0 where

@@ -3,7 +3,7 @@ ghost use mathlib.Core.Path.{_≡_};
 ghost use Prim.Native.Nat.{_+_, _*_, _≤_, _<_};
 ghost use lib.ListN.{length, getD};
 ghost use Rattle.plan.specs.Keys.{firstOf, lastOf};
-ghost use Rattle.key_ends.specs.Codes.{noted, Table, endsCode, SideEnds, PairEnds, leftFirst, leftLast, rightFirst, rightLast};
+ghost use Rattle.key_ends.specs.Codes.{noted, Table, endsCode, SideEnds, PairEnds, sideFirst, sideLast, leftFirst, leftLast, rightFirst, rightLast};
 
 // Notes a place in the table at a key's number; a number that the table has no room for is not noted.
 fn note(table: &mut [usize], k: usize, i: usize)
@@ -86,7 +86,7 @@ fn put_ends(keys: &[usize], firsts: &[usize], lasts: &[usize], asked: &[usize], 
 }
 
 // The places on a side of each key that is asked for, by tables of its key numbers.
-fn side_ends(keys: &[usize], asked: &[usize], ends: &mut [usize])
+pub fn side_ends(keys: &[usize], asked: &[usize], ends: &mut [usize])
     requires { ⌜ length (now keys) ≤ 512 ⌝ }
     requires { ⌜ length (now asked) ≤ length (now ends) ⌝ }
     ensures { λ _. ⌜ SideEnds (now (keys .entry)) (now (asked .entry)) (now (ends .exit)) ⌝ }
@@ -124,6 +124,20 @@ pub fn pair_ends(lkeys: &[usize], rkeys: &[usize], ends: &mut [usize])
     side_ends(lkeys, lkeys, ends);
     side_ends(rkeys, lkeys, &mut right);
     join_ends(lkeys, rkeys, &right, ends);
+}
+
+// The first place of a code of one side.
+pub fn side_first(c: usize) -> usize
+    ensures { λ r. ⌜ r ≡ sideFirst c ⌝ }
+{
+    c / 1024
+}
+
+// The last place of a code of one side.
+pub fn side_last(c: usize) -> usize
+    ensures { λ r. ⌜ r ≡ sideLast c ⌝ }
+{
+    c % 1024
 }
 
 // The first left place of a code.

@@ -40,10 +40,10 @@ module _ (m : Matching) (list array at hashes : List ℕ) (s : Hashed m (namesOf
     pub find-inside : i + 1 < length at
     find-inside = omega (arith, s .count)
 
-    some : Labels
+    abbrev some : Labels
     some = labelsOf []
 
-    labels-here : getD (labelsIn array at) i some ≡ labelsOf (recordAt array at i)
+    pub labels-here : getD (labelsIn array at) i (labelsOf []) ≡ labelsOf (recordAt array at i)
     labels-here = labels-at array at i some find-inside
 
     pub find-hash : (x : List ℕ) → x ≡ recordAt array at i → getD hashes i 0 ≡ hashOf (recordKey m list x)

@@ -1,12 +1,10 @@
--- `number_right` and `number_left`: the keys numbered so far are those of the whole. Assumes nothing.
-use Prim.Native.Nat.{ℕ, suc, _+_, _-_, _≤_, _<_}
+-- `number_noted` and `number_left`: the keys numbered so far are those of the whole. Assumes nothing.
+use Prim.Native.Nat.{ℕ, suc, _+_, _≤_, _<_}
 use mathlib.Core.Path.{_≡_, refl, sym, ap, _∙_}
-use mathlib.Core.List.{List, [], _∷_, _++_, map}
+use mathlib.Core.List.{List, [], _∷_, _++_, append-assoc, append-nil}
 use native.Mathlib.Numerals.{add-one}
 use native.Mathlib.Omega.{arith}
-use mir.Syntax.{w64}
-use mir.Val.{Fits}
-use lib.ListN.{length, getD, take, drop, set, length-set}
+use lib.ListN.{length, getD, take, set, length-set, length-append}
 use lib.Seq.{take-suc, take-suc-set, take-all, length-take-le}
 use Rattle.model.specs.Labels.{Labels}
 use Rattle.model.specs.Edits.{Names}
@@ -17,10 +15,12 @@ use Rattle.metric_name.specs.Lenient.{labelsOf}
 use Rattle.signature.specs.Keys.{recordKey, hashOf}
 use Rattle.timeseries.specs.Sides.{recordAt, labelsIn, Positions}
 use Rattle.timeseries.specs.SideLaws.{labels-at, labels-count, labels-first, positions-first}
-use Rattle.key_places.specs.Places.{firstWhere, first-within}
+use Rattle.key_places.specs.Places.{first-within}
 use Rattle.key_numbers.specs.Keys.{sameKeys, firstPlace, numbers, keyHashes, Hashed, Numbered}
 use Rattle.key_numbers.specs.KeyLaws.{place-so-far}
+use Rattle.key_numbers.specs.Buckets.{buckets, noted, Noted}
 use Rattle.key_numbers.proofs.Finding.{side-count}
+use Rattle.key_numbers.proofs.Noting.{noted-size, noting}
 
 module _ (m : Matching) (list array at hashes : List ℕ) (s : Hashed m (namesOf list) array at hashes) where
   pub place-within : (j : ℕ) (l : Labels) → j ≡ firstPlace m (namesOf list) (labelsIn array at) l → j ≤ length hashes
@@ -28,23 +28,31 @@ module _ (m : Matching) (list array at hashes : List ℕ) (s : Hashed m (namesOf
   place-within j l e = omega (arith, e, first-within (λ k. sameKeys m (namesOf list) k l) (labelsIn array at), side-count m list array at hashes s)
 
 -- i keys are numbered
-pub record Numbering (m : Matching) (list : List ℕ) (lefts : List Labels) (array at hashes₀ keys₀ hashes keys : List ℕ) (i : ℕ) : Type 0 where
+pub record Numbering (m : Matching) (list : List ℕ) (lefts : List Labels) (leftHashes array at hashes₀ keys₀ table₀ hashes keys table : List ℕ) (i : ℕ) : Type 0 where
   pub positions : Positions array at
   pub count : length at ≡ length keys + 1
   pub long : length hashes ≡ length keys
   pub within : i ≤ length keys
   pub same-hashes : length hashes ≡ length hashes₀
   pub same-keys : length keys ≡ length keys₀
+  pub same-table : length table ≡ length table₀
   pub alike : take i hashes ≡ keyHashes m (namesOf list) (take i (labelsIn array at))
   pub numbered : take i keys ≡ numbers m (namesOf list) (lefts ++ labelsIn array at) (take i (labelsIn array at))
+  pub noted : Noted table (leftHashes ++ take i hashes)
 
-module _ (m : Matching) (list : List ℕ) (lefts : List Labels) (array at hashes₀ keys₀ : List ℕ) where
-  pub number-starts : Positions array at → length at ≡ length keys₀ + 1 → length hashes₀ ≡ length keys₀ → Numbering m list lefts array at hashes₀ keys₀ hashes₀ keys₀ 0
-  number-starts h e f = record { positions = h; count = e; long = f; within = omega arith; same-hashes = refl; same-keys = refl; alike = refl; numbered = refl }
+module _ (m : Matching) (list : List ℕ) (lefts : List Labels) (leftHashes array at hashes₀ keys₀ table₀ : List ℕ) where
+  pub number-starts : Noted table₀ leftHashes → Positions array at → length at ≡ length keys₀ + 1 → length hashes₀ ≡ length keys₀ → Numbering m list lefts leftHashes array at hashes₀ keys₀ table₀ hashes₀ keys₀ table₀ 0
+  number-starts t h e f = record { positions = h; count = e; long = f; within = omega arith; same-hashes = refl; same-keys = refl; same-table = refl; alike = refl; numbered = refl; noted = rw (append-nil leftHashes) t }
 
-  module _ (hashes keys : List ℕ) (i : ℕ) (n : Numbering m list lefts array at hashes₀ keys₀ hashes keys i) where
+  module _ (hashes keys table : List ℕ) (i : ℕ) (n : Numbering m list lefts leftHashes array at hashes₀ keys₀ table₀ hashes keys table i) where
     labels-long : length (labelsIn array at) ≡ length keys
     labels-long = labels-count array at ∙ (omega (arith, n .count))
+
+    pub number-table : Noted table (leftHashes ++ take i hashes)
+    number-table = n .noted
+
+    pub number-size : length table ≡ buckets
+    number-size = n .noted .size
 
     module _ (h : i < length keys) where
       pub number-inside : i + 1 < length at
@@ -66,8 +74,9 @@ module _ (m : Matching) (list : List ℕ) (lefts : List Labels) (array at hashes
 
       pub number-turn : (rec : List ℕ) → rec ≡ recordAt array at i → (x : ℕ) → x ≡ hashOf (recordKey m list rec)
           → (k : ℕ) → k ≡ firstPlace m (namesOf list) (lefts ++ labelsIn array (take (i + 1) at)) (labelsOf rec)
-          → Numbering m list lefts array at hashes₀ keys₀ (set hashes i x) (set keys i k) (i + 1)
-      number-turn rec hr x hx k hk =
+          → (table′ : List ℕ) → table′ ≡ noted table x (length leftHashes + i)
+          → Numbering m list lefts leftHashes array at hashes₀ keys₀ table₀ (set hashes i x) (set keys i k) table′ (i + 1)
+      number-turn rec hr x hx k hk table′ ht =
           let ls = labelsIn array at in
           let d = labelsOf [] in
           let l = getD ls i d in
@@ -78,6 +87,7 @@ module _ (m : Matching) (list : List ℕ) (lefts : List Labels) (array at hashes
           let number : k ≡ firstPlace m (namesOf list) (lefts ++ ls) l =
           hk ∙ ap (λ (y : List Labels). firstPlace m (namesOf list) (lefts ++ y) (labelsOf rec)) (labels-first array at i)
           ∙ ap (firstPlace m (namesOf list) (lefts ++ take i ls)) here ∙ place-so-far m (namesOf list) lefts ls i d within in
+          let so-far : length (leftHashes ++ take i hashes) ≡ length leftHashes + i = length-append leftHashes (take i hashes) ∙ ap (λ (z : ℕ). length leftHashes + z) (sym number-hashes) in
           record {
             positions = n .positions;
             count = simp length-set (n .count);
@@ -85,8 +95,10 @@ module _ (m : Matching) (list : List ℕ) (lefts : List Labels) (array at hashes
             within = simp length-set (omega arith);
             same-hashes = simp length-set (n .same-hashes);
             same-keys = simp length-set (n .same-keys);
+            same-table = ap length ht ∙ noted-size table x (length leftHashes + i) ∙ n .same-table;
             alike = rw (add-one i, take-suc-set hashes i x (omega (arith, n .long)), more, map-append, n .alike, hash);
             numbered = rw (add-one i, take-suc-set keys i k h, more, map-append, n .numbered, number);
+            noted = rw (ht, add-one i, take-suc-set hashes i x (omega (arith, n .long)), ← append-assoc leftHashes (take i hashes) (x ∷ [])) (rw so-far at (noting table (leftHashes ++ take i hashes) x (n .noted)));
           }
 
     pub number-ends : length keys ≤ i → Numbered m (namesOf list) lefts array at hashes keys

@@ -51,6 +51,11 @@ stands-right lefts rights l s = record {
 }
 
 module _ (m : Matching) (ns : Names) where
+  -- a key has one place
+  same-place : (all : List Labels) (l k : Labels) → keyOf m ns (l .tags) ≡ keyOf m ns (k .tags) → firstPlace m ns all l ≡ firstPlace m ns all k
+  unfolding firstPlace
+  same-place all l k e = rw e
+
   -- where a key stands it is found
   pub place-found : (all : List Labels) (l : Labels) → Stands all l → firstPlace m ns all l < length all
   unfolding firstPlace
@@ -62,10 +67,6 @@ module _ (m : Matching) (ns : Names) where
   pub place-key : (all : List Labels) (l d : Labels) → firstPlace m ns all l < length all → keyOf m ns (getD all (firstPlace m ns all l) d .tags) ≡ keyOf m ns (l .tags)
   unfolding firstPlace
   place-key all l d h = same-tags-is _ _ (first-holds (λ k. sameKeys m ns k l) all d h)
-
-  same-place : (all : List Labels) (l k : Labels) → keyOf m ns (l .tags) ≡ keyOf m ns (k .tags) → firstPlace m ns all l ≡ firstPlace m ns all k
-  unfolding firstPlace
-  same-place all l k e = rw e
 
   -- equal numbers exactly where keys are equal
   pub numbers-tell : (all : List Labels) (l k : Labels) → Stands all l → Stands all k → eqb (firstPlace m ns all l) (firstPlace m ns all k) ≡ sameKeys m ns l k

@@ -1,16 +1,17 @@
-// The keys of two vectors, numbered by their first places.
+// The keys of two vectors, numbered by their first places, in expected linear time by a table of hashes.
 use labels::Matching;
 ghost use mathlib.Core.Path.{_≡_};
 ghost use Prim.Native.Nat.{_+_, _-_, _*_, _≤_, _<_};
 ghost use mathlib.Core.List.{[], _++_};
-ghost use lib.ListN.{length};
+ghost use lib.ListN.{length, getD};
 ghost use Rattle.model.specs.Labels.{sameTags};
 ghost use Rattle.labels.specs.Names.{namesOf};
 ghost use Rattle.metric_name.specs.Lenient.{labelsOf};
 ghost use Rattle.labels.specs.Matchings.{matchingOf};
 ghost use Rattle.signature.specs.Keys.{recordKey, hashOf};
 ghost use Rattle.timeseries.specs.Sides.{labelsIn, Positions};
-ghost use Rattle.key_numbers.specs.Keys.{firstPlace, Hashed, Numbered};
+ghost use Rattle.key_numbers.specs.Keys.{sameKeys, firstPlace, Hashed, Numbered};
+ghost use Rattle.key_numbers.specs.Buckets.{buckets, bucketOf, noted, Noted};
 
 // Whether two records with the hashes g and h of their keys have the same key. The hashes only spare the comparison.
 fn same_key(g: u64, a: &[u8], h: u64, b: &[u8], matching: Matching, list: &[u8]) -> bool
@@ -55,8 +56,8 @@ fn find_key(
     i
 }
 
-// The number of a record's key: among the left records, else behind them.
-fn key_number(
+// The number of a record's key, by a search: among the left records, else behind them.
+fn scan_number(
     left: &[u8],
     left_at: &[usize],
     left_hashes: &[u64],
@@ -81,6 +82,168 @@ fn key_number(
     n + find_key(array, at, hashes, rec, h, matching, list)
 }
 
+// Notes a place at a hash's bucket, where nothing before it is noted.
+fn note(table: &mut [u16], h: u64, n: usize)
+    requires { ⌜ length (now table) ≡ buckets ⌝ }
+    ensures { λ _. ⌜ now (table .exit) ≡ noted (now (table .entry)) h n ⌝ }
+{
+    let b = (h % 16384) as usize;
+    if n < table[b] as usize {
+        table[b] = n as u16;
+    }
+}
+
+// Notes the places of hashes, in a table that has noted nothing.
+fn note_hashes(hashes: &[u64], table: &mut [u16])
+    requires { ⌜ length (now table) ≡ buckets ⌝ }
+    ensures { λ _. ⌜ Noted (now (table .exit)) (now (hashes .entry)) ⌝ }
+{
+    let mut i: usize = 0;
+    while i < hashes.len() {
+        note(table, hashes[i], i);
+        i += 1;
+    }
+}
+
+// What is noted at a hash's bucket.
+fn place_noted(table: &[u16], h: u64) -> usize
+    requires { ⌜ length (now table) ≡ buckets ⌝ }
+    ensures { λ r. ⌜ r ≡ getD (now (table .entry)) (bucketOf h) 0 ⌝ }
+{
+    table[(h % 16384) as usize] as usize
+}
+
+// Whether the record at a place, counted over the left records and then those behind them, has the key of another.
+fn has_key(
+    left: &[u8],
+    left_at: &[usize],
+    left_hashes: &[u64],
+    array: &[u8],
+    at: &[usize],
+    hashes: &[u64],
+    j: usize,
+    rec: &[u8],
+    h: u64,
+    matching: Matching,
+    list: &[u8],
+) -> bool
+    requires { ⌜ Hashed (matchingOf matching) (namesOf (now list)) (now left) (now «left_at») (now «left_hashes») ⌝ }
+    requires { ⌜ Hashed (matchingOf matching) (namesOf (now list)) (now array) (now at) (now hashes) ⌝ }
+    requires { ⌜ j < length (now «left_hashes») + length (now hashes) ⌝ }
+    requires { ⌜ h ≡ hashOf (recordKey (matchingOf matching) (now list) (now rec)) ⌝ }
+    ensures { λ r. ⌜ r ≡ sameKeys (matchingOf matching) (namesOf (now (list .entry))) (getD (labelsIn (now (left .entry)) (now («left_at» .entry)) ++ labelsIn (now (array .entry)) (now (at .entry))) j (labelsOf [])) (labelsOf (now (rec .entry))) ⌝ }
+{
+    let before = left_hashes.len();
+    if j < before {
+        let g = left_hashes[j];
+        let there = timeseries::record(left, left_at, j);
+        return same_key(g, there, h, rec, matching, list);
+    }
+    let k = j - before;
+    let g = hashes[k];
+    let own = timeseries::record(array, at, k);
+    same_key(g, own, h, rec, matching, list)
+}
+
+// The number of a record's key, by the place noted for its hash: none before it has the key. Only where the series there has another key is it searched for.
+fn key_number(
+    left: &[u8],
+    left_at: &[usize],
+    left_hashes: &[u64],
+    array: &[u8],
+    at: &[usize],
+    hashes: &[u64],
+    table: &[u16],
+    rec: &[u8],
+    h: u64,
+    matching: Matching,
+    list: &[u8],
+) -> usize
+    requires { ⌜ Hashed (matchingOf matching) (namesOf (now list)) (now left) (now «left_at») (now «left_hashes») ⌝ }
+    requires { ⌜ Hashed (matchingOf matching) (namesOf (now list)) (now array) (now at) (now hashes) ⌝ }
+    requires { ⌜ Noted (now table) (now «left_hashes» ++ now hashes) ⌝ }
+    requires { ⌜ h ≡ hashOf (recordKey (matchingOf matching) (now list) (now rec)) ⌝ }
+    ensures { λ r. ⌜ r ≡ firstPlace (matchingOf matching) (namesOf (now (list .entry))) (labelsIn (now (left .entry)) (now («left_at» .entry)) ++ labelsIn (now (array .entry)) (now (at .entry))) (labelsOf (now (rec .entry))) ⌝ }
+{
+    let n = left_hashes.len() + hashes.len();
+    let j = place_noted(table, h);
+    if n <= j {
+        return n;
+    }
+    if has_key(
+        left,
+        left_at,
+        left_hashes,
+        array,
+        at,
+        hashes,
+        j,
+        rec,
+        h,
+        matching,
+        list,
+    ) {
+        return j;
+    }
+    scan_number(
+        left,
+        left_at,
+        left_hashes,
+        array,
+        at,
+        hashes,
+        rec,
+        h,
+        matching,
+        list,
+    )
+}
+
+// Numbers the keys of the right side, with the places of the left hashes noted.
+fn number_noted(
+    left: &[u8],
+    left_at: &[usize],
+    left_hashes: &[u64],
+    array: &[u8],
+    at: &[usize],
+    matching: Matching,
+    list: &[u8],
+    hashes: &mut [u64],
+    keys: &mut [usize],
+    table: &mut [u16],
+)
+    requires { ⌜ Hashed (matchingOf matching) (namesOf (now list)) (now left) (now «left_at») (now «left_hashes») ⌝ }
+    requires { ⌜ Noted (now table) (now «left_hashes») ⌝ }
+    requires { ⌜ Positions (now array) (now at) ⌝ }
+    requires { ⌜ length (now at) ≡ length (now keys) + 1 ⌝ }
+    requires { ⌜ length (now hashes) ≡ length (now keys) ⌝ }
+    ensures { λ _. ⌜ Numbered (matchingOf matching) (namesOf (now (list .entry))) (labelsIn (now (left .entry)) (now («left_at» .entry))) (now (array .entry)) (now (at .entry)) (now (hashes .exit)) (now (keys .exit)) ⌝ }
+{
+    let mut i: usize = 0;
+    while i < keys.len() {
+        let rec = timeseries::record(array, at, i);
+        let h = signature::hash_key(rec, matching, list);
+        let e = i + 1;
+        let k = key_number(
+            left,
+            left_at,
+            left_hashes,
+            array,
+            &at[..e],
+            &hashes[..i],
+            table,
+            rec,
+            h,
+            matching,
+            list,
+        );
+        keys[i] = k;
+        hashes[i] = h;
+        note(table, h, left_hashes.len() + i);
+        i += 1;
+    }
+}
+
 // Numbers the keys of the right side by their first places: the left side's number, else their own behind the left ones.
 pub fn number_right(
     left: &[u8],
@@ -99,27 +262,21 @@ pub fn number_right(
     requires { ⌜ length (now hashes) ≡ length (now keys) ⌝ }
     ensures { λ _. ⌜ Numbered (matchingOf matching) (namesOf (now (list .entry))) (labelsIn (now (left .entry)) (now («left_at» .entry))) (now (array .entry)) (now (at .entry)) (now (hashes .exit)) (now (keys .exit)) ⌝ }
 {
-    let mut i: usize = 0;
-    while i < keys.len() {
-        let rec = timeseries::record(array, at, i);
-        let h = signature::hash_key(rec, matching, list);
-        let e = i + 1;
-        let k = key_number(
-            left,
-            left_at,
-            left_hashes,
-            array,
-            &at[..e],
-            &hashes[..i],
-            rec,
-            h,
-            matching,
-            list,
-        );
-        keys[i] = k;
-        hashes[i] = h;
-        i += 1;
-    }
+    // 65535: nothing is noted
+    let mut table = [65535u16; 16384];
+    note_hashes(left_hashes, &mut table);
+    number_noted(
+        left,
+        left_at,
+        left_hashes,
+        array,
+        at,
+        matching,
+        list,
+        hashes,
+        keys,
+        &mut table,
+    );
 }
 
 // Numbers the keys of the left side by their first places.

@@ -1,26 +1,38 @@
 -- `key_numbers::key_number` meets its contract. Assumes nothing.
 use borrow.Author.Needs.{needs}
-use native.Mathlib.Omega.{arith}
-use Rattle.key_numbers.proofs.Finding.{number-left-one, number-own}
-use Rattle.key_numbers.proofs.Numbering.{place-within}
+use Rattle.key_numbers.proofs.Noting.{key-absent, key-there}
 use Rattle.key_numbers.proofs.key_number.Statement.{statement}
 use Rattle.key_numbers.proofs.key_number.Tie as tie
 
-find-key-requires : tie.Need-find-key-requires
-find-key-requires c κs = search needs
+add-n : tie.Need-add-n
+add-n c = search needs
+
+place-noted-requires : tie.Need-place-noted-requires
+place-noted-requires c κs = search needs
 
 returns : tie.Need-returns
-returns c = search number-left-one
+returns c = search key-absent
 
-find-key-requires-2 : tie.Need-find-key-requires-2
-find-key-requires-2 c κs = search needs
-
-add-result : tie.Need-add-result
-add-result c = omega (arith, place-within _ _ _ _ _ (c .before .before .before .before .before .before .before .before .before .before .before .pre .1 .0) (c .find-key2 .result) _ (c .find-key2 .ensures))
+has-key-requires : tie.Need-has-key-requires
+has-key-requires c κs = (search needs, (search needs, (search needs, search needs)))
 
 returns-2 : tie.Need-returns-2
-returns-2 c = search number-own
+returns-2 c = search key-there
+
+scan-number-requires : tie.Need-scan-number-requires
+scan-number-requires c κs = search needs
+
+returns-3 : tie.Need-returns-3
+returns-3 c = search needs
 
 pub key-number-spec : {M : Type 1} → statement M
 key-number-spec =
-    tie.close (tie.spec find-key-requires returns find-key-requires-2 add-result returns-2)
+    tie.close
+    (tie.spec
+    add-n
+    place-noted-requires
+    returns
+    has-key-requires
+    returns-2
+    scan-number-requires
+    returns-3)

@@ -1,0 +1,154 @@
+#!/usr/bin/env python3
+"""Writes crates/key_cases/stdin and stdout: two sides of label records under a matching, and the key numbers that
+docs/01-scope.md says they have, worked out here apart from the program. The hash alone is this library's own; only cases
+are chosen by it. Run it in the repository."""
+import random
+import struct
+
+ALL, ON, IGNORING = 0, 1, 2
+BUCKETS = 16384
+
+
+def field(content):
+    return bytes([len(content)]) + content
+
+
+def encode_tags(tags):
+    return b''.join(field(k) + field(v) for k, v in tags)
+
+
+def record(series):
+    name, tags = series
+    return field(name) + bytes([len(tags)]) + encode_tags(tags)
+
+
+def part(side):
+    array = b''.join(record(s) for s in side)
+    return struct.pack('<HHH', len(side), 0, len(array)) + array
+
+
+def listed(names):
+    return bytes([len(names)]) + b''.join(field(n) for n in names)
+
+
+def key_of(matching, names, series):
+    """The name is in no key."""
+    tags = series[1]
+    if matching == ON:
+        return [t for t in tags if t[0] in names]
+    if matching == IGNORING:
+        return [t for t in tags if t[0] not in names]
+    return tags
+
+
+def numbers(matching, names, left, right):
+    """The first place, over left and then right, of each series' key."""
+    keys = [key_of(matching, names, s) for s in left + right]
+    places = [keys.index(k) for k in keys]
+    return places[:len(left)], places[len(left):]
+
+
+def hash_of(tags):
+    h = 0
+    for b in encode_tags(tags):
+        h = h % 2**39 * 16777619 + b
+    return h
+
+
+def series(name=b'', **tags):
+    """A series with tags in order of their keys."""
+    return name, sorted((k.encode(), v.encode()) for k, v in tags.items())
+
+
+HOST_A, HOST_B, HOST_C = series(host='a'), series(host='b'), series(host='c')
+# two values that leave one hash behind them, found by trying 518,839 values of eight letters chosen by chance
+ALIKE = 'haeanplh', 'rswqvdyo'
+
+
+def equal_keys():
+    yield ALL, [], [], []
+    yield ALL, [], [HOST_A], []
+    yield ALL, [], [], [HOST_A, HOST_A]
+    yield ALL, [], [HOST_A, HOST_B], [HOST_B, HOST_A]
+    yield ALL, [], [HOST_A, HOST_A, HOST_B], [HOST_C, HOST_B, HOST_C, HOST_A]
+    yield ALL, [], [HOST_B, HOST_A, HOST_B], [HOST_A, HOST_B]
+    yield ON, [b'host'], [series(host='a', job='x'), series(host='a', job='y')], [series(host='a'), series(job='x')]
+    yield IGNORING, [b'job'], [series(host='a', job='x'), series(host='a', job='y')], [series(host='a'), series(job='x')]
+
+
+def prefixes():
+    """Keys that begin other keys, and tags that are parted elsewhere."""
+    short, long = series(a='1'), series(a='1', b='2')
+    yield ALL, [], [short, long], [long, short, series(b='2')]
+    yield ALL, [], [series(a='1'), series(a='12'), series(a='')], [series(a='12'), series(a='1'), series(a='123')]
+    yield ALL, [], [series(ab='c'), series(a='bc')], [series(abc=''), series(a='bc'), series(ab='c')]
+    yield ON, [b'a'], [short, long], [long, short]
+    yield IGNORING, [b'b', b'c'], [short, long], [series(a='1', c='3'), series(b='2')]
+
+
+def empty_values():
+    """A tag with no bytes is present."""
+    yield ALL, [], [series(), series(a='')], [series(a=''), series(), series(b='')]
+    yield ON, [b'a'], [series(b='1'), series(a='', b='1')], [series(a=''), series(b='2')]
+    yield IGNORING, [b'b'], [series(a=''), series()], [series(b=''), series(a='', b='')]
+
+
+def names():
+    """The name is in no key, listed or not."""
+    one, two = series(b'one', a='1'), series(b'two', a='1')
+    for matching, listing in (ALL, []), (ON, [b'a']), (ON, [b'__name__']), (ON, [b'__name__', b'a']), (IGNORING, [b'__name__']):
+        yield matching, listing, [one, two, series(b'one', a='2')], [two, series(a='1'), series(b'one')]
+
+
+def nothing_left():
+    sides = [series(a='1', b='2'), series(a='3')], [series(b='4'), series()]
+    yield ON, [], *sides
+    yield ON, [b'c'], *sides
+    yield IGNORING, [b'a', b'b'], *sides
+    yield IGNORING, [b'a', b'b', b'c'], *sides
+
+
+def full_sides():
+    every = [series(b'm', host=f'host-{i}', zone=f'z{i % 7}') for i in range(1024)]
+    yield ALL, [], every[:512], every[512:]
+    yield ALL, [], every[:512], every[511::-1]
+    yield ON, [b'zone'], every[:512], every[512:]
+    yield IGNORING, [b'zone'], every[:512], every[256:768]
+    rng = random.Random(9)
+    some = every[:300]
+    yield ALL, [], rng.choices(some, k=512), rng.choices(some, k=512)
+
+
+def one_bucket(count):
+    """Series whose keys' hashes fall in one bucket, by trying one value after another."""
+    bucket = hash_of(series(n='0')[1]) % BUCKETS
+    found, i = [], 0
+    while len(found) < count:
+        if hash_of(series(n=str(i))[1]) % BUCKETS == bucket:
+            found.append(series(n=str(i)))
+        i += 1
+    return found
+
+
+def buckets():
+    a, b, c, d = one_bucket(4)
+    yield ALL, [], [a], [b]
+    yield ALL, [], [a, b, a, b], [b, a, c, c, d]
+    yield ALL, [], [b, c], [a, d, a, d, c, b]
+    yield ALL, [], [], [c, b, a, c, b, a]
+    like, other = (series(a=v, b='') for v in ALIKE)
+    assert hash_of(like[1]) == hash_of(other[1])
+    yield ALL, [], [like], [other]
+    yield ALL, [], [other, like, like], [like, other]
+
+
+cases = [*equal_keys(), *prefixes(), *empty_values(), *names(), *nothing_left(), *full_sides(), *buckets()]
+with open('crates/key_cases/stdin', 'wb') as f:
+    for matching, listing, left, right in cases:
+        f.write(bytes([matching]))
+        for content in listed(listing), part(left), part(right):
+            f.write(struct.pack('<H', len(content)) + content)
+with open('crates/key_cases/stdout', 'w') as f:
+    for case in cases:
+        left, right = numbers(*case)
+        f.write(''.join(f' {k}' for k in left) + ' |' + ''.join(f' {k}' for k in right) + '\n')
