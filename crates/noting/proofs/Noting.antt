@@ -71,10 +71,10 @@ module _ (keys : List ℕ) (k first last : ℕ) (ends : KeyEnds keys k first las
   gather-starts = record { few = omega arith; noting = rw (ends .first-place, ← from-first k keys) (noting-starts (placesOf k 0 keys) 0 before) }
 
   module _ (n j : ℕ) (places : List ℕ) (g : Gathering keys k before n j places) where
-    module _ (within : last < length keys) (h : j ≤ last) where
+    module _ (h : j < length keys) where
       next : placesOf k j (drop j keys) ≡ cond (eqb (getD keys j 0) k) (j ∷ placesOf k (j + 1) (drop (j + 1) keys)) (placesOf k (j + 1) (drop (j + 1) keys))
       unfolding placesOf
-      next = rw (drop-cons keys j 0 (omega arith), add-one)
+      next = rw (drop-cons keys j 0 h, add-one)
 
       few-more : (b : Bool) (later : List ℕ) (r : ℕ) → NotedIf b j n places later r → r ≤ j + 1
       few-more true later r p = omega (arith, g .few, p .count)

@@ -1,5 +1,6 @@
 -- `places_of` meets its contract. Assumes nothing.
 use Prim.Native.Nat.{_+_, _-_}
+use native.Mathlib.Omega.{arith}
 use borrow.Author.Needs.{needs}
 use Rattle.noting.proofs.Noting.{Gathering, gather-starts, gather-turn, gather-length, gather-ends}
 use Rattle.noting.proofs.places_of.Statement.{statement}
@@ -23,6 +24,6 @@ places-of-spec =
     (λ c κs. search needs)
     (λ c. search needs)
     (λ c. search needs)
-    (λ c. search gather-turn)
+    (λ c. let a = c .before .before .before .before .before in let b = a .before .before .before .before in gather-turn _ _ _ _ (b .pre .1 .0) _ _ _ _ (a .before .loop .inv) (omega (arith, a .loop-test .taken, b .pre .1 .1)) _ _ (c .before .before .note-if .ensures))
     (λ c. search gather-length)
     (λ c. search gather-ends))
