@@ -9,10 +9,10 @@ use lib.Dec.{eqb}
 use lib.ListN.{length, getD, drop, drop-of-length-le}
 use Rattle.model.specs.Limits.{maxSeries}
 use Rattle.model.specs.Lists.{isEmpty}
-use Rattle.plan.specs.Keys.{firstOf}
+use Rattle.plan.specs.Keys.{firstOf, lastOf}
 use Rattle.plan.specs.Sets.{placesOf, metPlaces}
 use Rattle.noting.specs.Places.{NotedIf, NotedAll, KeyEnds, Within, RightSide}
-use Rattle.noting.proofs.Between.{from-first, some-place, last-within}
+use Rattle.noting.proofs.Between.{from-first, some-place, last-within, one-place}
 
 -- the places of a key are few, and places
 
@@ -37,9 +37,21 @@ places-below k i (x ∷ keys) j h = go (eqb x k) j h (places-below k (suc i) key
 
 -- the places that are met
 
+met-most : (falls : Bool) (keys : List ℕ) (k m : ℕ) → 0 < m → length (placesOf k 0 keys) ≤ m → length (metPlaces falls keys k) ≤ m
+met-most falls keys k m h l = go (placesOf k 0 keys) falls l
+  where
+    go : (xs : List ℕ) (b : Bool) → length xs ≤ m → length (cond (isEmpty xs && b) (0 ∷ []) xs) ≤ m
+    go (x ∷ xs) b l = l
+    go [] true l = omega arith
+    go [] false l = l
+
 module _ (keys : List ℕ) (k first last : ℕ) (ends : KeyEnds keys k first last) where
   pub ends-within : first < length keys → last < length keys
   ends-within h = rw (ends .last-place) (last-within k keys (rw (← ends .first-place) h))
+
+  -- a key of one place meets one at most
+  pub met-one : first ≡ last → (falls : Bool) → length (metPlaces falls keys k) ≤ 1
+  met-one e falls = met-most falls keys k 1 (omega arith) (one-place k keys (omega (arith, e, ends .first-place, ends .last-place)))
 
   pub met-some : (falls : Bool) (before after : List ℕ) (n : ℕ) → first < length keys → NotedAll (placesOf k 0 keys) 0 before after n → NotedAll (metPlaces falls keys k) 0 before after n
   met-some falls before after n h p = go (placesOf k 0 keys) (some-place k 0 keys (rw (← ends .first-place) h)) p
@@ -65,12 +77,7 @@ module _ (falls : Bool) (p : ℕ) (keys rows : List ℕ) (side : RightSide falls
   row-in j h = rw (side .size) (rw (← suc-mul) (mul-le-mul-right p h))
 
   pub met-few : length (metPlaces falls keys k) ≤ maxSeries
-  met-few = go (placesOf k 0 keys) falls (places-few k 0 keys)
-    where
-      go : (xs : List ℕ) (b : Bool) → length xs ≤ length keys → length (cond (isEmpty xs && b) (0 ∷ []) xs) ≤ maxSeries
-      go (x ∷ xs) b h = omega (arith, side .few)
-      go [] true h = omega arith
-      go [] false h = omega arith
+  met-few = met-most falls keys k maxSeries (omega arith) (omega (arith, places-few k 0 keys, side .few))
 
   pub met-within : Within p rows (metPlaces falls keys k)
   met-within = go (placesOf k 0 keys) falls refl (places-below k 0 keys)
