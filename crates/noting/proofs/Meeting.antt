@@ -6,11 +6,13 @@ use mathlib.Core.List.{List, [], _∷_}
 use native.Mathlib.Nat.{suc-mul, mul-le-mul-right}
 use native.Mathlib.Omega.{arith}
 use lib.Dec.{eqb}
-use lib.ListN.{length, getD}
+use lib.ListN.{length, getD, drop, drop-of-length-le}
 use Rattle.model.specs.Limits.{maxSeries}
 use Rattle.model.specs.Lists.{isEmpty}
+use Rattle.plan.specs.Keys.{firstOf, lastOf}
 use Rattle.plan.specs.Sets.{placesOf, metPlaces}
-use Rattle.noting.specs.Places.{NotedIf, NotedAll, Within, RightSide}
+use Rattle.noting.specs.Places.{NotedIf, NotedAll, KeyEnds, Within, RightSide}
+use Rattle.noting.proofs.Between.{from-first, some-place, last-within, one-place}
 
 -- the places of a key are few, and places
 
@@ -35,33 +37,47 @@ places-below k i (x ∷ keys) j h = go (eqb x k) j h (places-below k (suc i) key
 
 -- the places that are met
 
-module _ (keys : List ℕ) (k : ℕ) (before after : List ℕ) (n : ℕ) (g : NotedAll (placesOf k 0 keys) 0 before after n) where
-  pub met-some : (falls : Bool) → 0 < n → NotedAll (metPlaces falls keys k) 0 before after n
-  met-some falls h = go (placesOf k 0 keys) g
-    where
-      go : (xs : List ℕ) → NotedAll xs 0 before after n → NotedAll (cond (isEmpty xs && falls) (0 ∷ []) xs) 0 before after n
-      go [] p = absurd (omega (arith, p .count))
-      go (x ∷ xs) p = p
+met-most : (falls : Bool) (keys : List ℕ) (k m : ℕ) → 0 < m → length (placesOf k 0 keys) ≤ m → length (metPlaces falls keys k) ≤ m
+met-most falls keys k m h l = go (placesOf k 0 keys) falls l
+  where
+    go : (xs : List ℕ) (b : Bool) → length xs ≤ m → length (cond (isEmpty xs && b) (0 ∷ []) xs) ≤ m
+    go (x ∷ xs) b l = l
+    go [] true l = omega arith
+    go [] false l = l
 
-  pub met-none : (falls : Bool) (later : List ℕ) (r : ℕ) → n ≤ 0 → NotedIf falls 0 0 after later r → NotedAll (metPlaces falls keys k) 0 before later r
-  met-none falls later r h p = go (placesOf k 0 keys) g falls p
+module _ (keys : List ℕ) (k first last : ℕ) (ends : KeyEnds keys k first last) where
+  pub ends-within : first < length keys → last < length keys
+  ends-within h = rw (ends .last-place) (last-within k keys (rw (← ends .first-place) h))
+
+  -- a key of one place meets one at most
+  pub met-one : first ≡ last → (falls : Bool) → length (metPlaces falls keys k) ≤ 1
+  met-one e falls = met-most falls keys k 1 (omega arith) (one-place k keys (omega (arith, e, ends .first-place, ends .last-place)))
+
+  pub met-some : (falls : Bool) (before after : List ℕ) (n : ℕ) → first < length keys → NotedAll (placesOf k 0 keys) 0 before after n → NotedAll (metPlaces falls keys k) 0 before after n
+  met-some falls before after n h p = go (placesOf k 0 keys) (some-place k 0 keys (rw (← ends .first-place) h)) p
     where
-      go : (xs : List ℕ) → NotedAll xs 0 before after n → (b : Bool) → NotedIf b 0 0 after later r → NotedAll (cond (isEmpty xs && b) (0 ∷ []) xs) 0 before later r
-      go (x ∷ xs) q b p = absurd (omega (arith, q .count))
-      go [] q true p = record { count = p .count; content = p .content ∙ rw (q .content) }
-      go [] q false p = record { count = p .count; content = p .content ∙ q .content }
+      go : (xs : List ℕ) → 0 < length xs → NotedAll xs 0 before after n → NotedAll (cond (isEmpty xs && falls) (0 ∷ []) xs) 0 before after n
+      go [] l p = absurd (omega arith)
+      go (x ∷ xs) l p = p
+
+  module _ (h : length keys ≤ first) where
+    none : placesOf k 0 keys ≡ []
+    unfolding placesOf
+    none = from-first k keys ∙ rw (← ends .first-place, drop-of-length-le keys h)
+
+    pub met-none : (falls : Bool) (before after : List ℕ) (r : ℕ) → NotedIf falls 0 0 before after r → NotedAll (metPlaces falls keys k) 0 before after r
+    met-none falls before after r p = rw none (go falls p)
+      where
+        go : (b : Bool) → NotedIf b 0 0 before after r → NotedAll (cond b (0 ∷ []) []) 0 before after r
+        go true p = record { count = p .count; content = p .content }
+        go false p = record { count = p .count; content = p .content }
 
 module _ (falls : Bool) (p : ℕ) (keys rows : List ℕ) (side : RightSide falls p keys rows) (k : ℕ) where
   row-in : (j : ℕ) → j < length keys → j * p + p ≤ length rows
   row-in j h = rw (side .size) (rw (← suc-mul) (mul-le-mul-right p h))
 
   pub met-few : length (metPlaces falls keys k) ≤ maxSeries
-  met-few = go (placesOf k 0 keys) falls (places-few k 0 keys)
-    where
-      go : (xs : List ℕ) (b : Bool) → length xs ≤ length keys → length (cond (isEmpty xs && b) (0 ∷ []) xs) ≤ maxSeries
-      go (x ∷ xs) b h = omega (arith, side .few)
-      go [] true h = omega arith
-      go [] false h = omega arith
+  met-few = met-most falls keys k maxSeries (omega arith) (omega (arith, places-few k 0 keys, side .few))
 
   pub met-within : Within p rows (metPlaces falls keys k)
   met-within = go (placesOf k 0 keys) falls refl (places-below k 0 keys)

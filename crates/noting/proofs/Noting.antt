@@ -7,13 +7,15 @@ use native.Mathlib.Numerals.{add-one}
 use native.Mathlib.Nat.{zero-add, add-zero, suc-mul, mul-le-mul-right, zero-mul}
 use native.Mathlib.Omega.{arith}
 use lib.Dec.{eqb}
-use lib.ListN.{length, getD, take, drop, set, length-append, drop-of-length-le}
+use lib.ListN.{length, getD, take, drop, set, length-append}
 use lib.Seq.{drop-cons, set-out, sets, sets-eq, length-sets, take-at}
 use borrow.Author.Tests.{eq-eqb, ne-eqb}
 use Rattle.model.specs.Limits.{maxSeries}
 use Rattle.model.specs.Lists.{isEmpty, cases}
+use Rattle.plan.specs.Keys.{firstOf}
 use Rattle.plan.specs.Sets.{placesOf, metPlaces}
-use Rattle.noting.specs.Places.{NotedIf, NotedAll, Within, RightSide}
+use Rattle.noting.specs.Places.{NotedIf, NotedAll, KeyEnds}
+use Rattle.noting.proofs.Between.{from-first, behind-last}
 
 -- one number
 
@@ -61,13 +63,12 @@ noted-front xs before after r h few =
 -- the places of a key
 
 pub record Gathering (keys : List ℕ) (k : ℕ) (before : List ℕ) (n j : ℕ) (places : List ℕ) : Type 0 where
-  pub reached : j ≤ length keys
   pub few : n ≤ j
   pub noting : Noting (placesOf k 0 keys) 0 before (placesOf k j (drop j keys)) n places
 
-module _ (keys : List ℕ) (k : ℕ) (before : List ℕ) where
-  pub gather-starts : Gathering keys k before 0 0 before
-  gather-starts = record { reached = omega arith; few = omega arith; noting = noting-starts (placesOf k 0 keys) 0 before }
+module _ (keys : List ℕ) (k first last : ℕ) (ends : KeyEnds keys k first last) (before : List ℕ) where
+  pub gather-starts : Gathering keys k before 0 first before
+  gather-starts = record { few = omega arith; noting = rw (ends .first-place, ← from-first k keys) (noting-starts (placesOf k 0 keys) 0 before) }
 
   module _ (n j : ℕ) (places : List ℕ) (g : Gathering keys k before n j places) where
     module _ (h : j < length keys) where
@@ -81,7 +82,6 @@ module _ (keys : List ℕ) (k : ℕ) (before : List ℕ) where
 
       pub gather-turn : (later : List ℕ) (r : ℕ) → NotedIf (eqb (getD keys j 0) k) j n places later r → Gathering keys k before r (j + 1) later
       gather-turn later r p = record {
-        reached = omega arith;
         few = few-more (eqb (getD keys j 0) k) later r p;
         noting = noting-turn (placesOf k 0 keys) 0 before (eqb (getD keys j 0) k) j n places later (placesOf k (j + 1) (drop (j + 1) keys)) r (rw next at (g .noting)) p;
       }
@@ -89,6 +89,5 @@ module _ (keys : List ℕ) (k : ℕ) (before : List ℕ) where
     pub gather-length : length places ≡ length before
     gather-length = noting-length (placesOf k 0 keys) 0 before (placesOf k j (drop j keys)) n places (g .noting)
 
-    pub gather-ends : length keys ≤ j → NotedAll (placesOf k 0 keys) 0 before places n
-    unfolding placesOf
-    gather-ends h = noting-ends (placesOf k 0 keys) 0 before n places (rw (drop-of-length-le keys h) at (g .noting))
+    pub gather-ends : last < j → NotedAll (placesOf k 0 keys) 0 before places n
+    gather-ends h = noting-ends (placesOf k 0 keys) 0 before n places (rw (behind-last k keys j (rw (← ends .last-place) h)) at (g .noting))

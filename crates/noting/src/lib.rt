@@ -1,10 +1,10 @@
 // Numbers noted in an array, and the right places that a left series meets.
 ghost use mathlib.Core.Path.{_≡_};
-ghost use Prim.Native.Nat.{_+_, _≤_};
+ghost use Prim.Native.Nat.{_+_, _≤_, _<_};
 ghost use lib.ListN.{length, set};
 ghost use Rattle.model.specs.Limits.{maxSeries};
 ghost use Rattle.plan.specs.Sets.{placesOf, metPlaces};
-ghost use Rattle.noting.specs.Places.{NotedIf, NotedAll};
+ghost use Rattle.noting.specs.Places.{NotedIf, NotedAll, KeyEnds};
 
 // Writes a number at the place n of a list, unless the list is full.
 fn note(list: &mut [usize], n: usize, x: usize)
@@ -27,14 +27,16 @@ pub fn note_if(here: bool, x: usize, n: usize, list: &mut [usize]) -> usize
     n
 }
 
-// Lists the places of a key, and counts them.
-fn places_of(keys: &[usize], k: usize, places: &mut [usize]) -> usize
+// Lists the places of a key that stands somewhere, from its first to its last, and counts them.
+fn places_of(keys: &[usize], k: usize, first: usize, last: usize, places: &mut [usize]) -> usize
     requires { ⌜ length (now keys) ≤ maxSeries ⌝ }
+    requires { ⌜ KeyEnds (now keys) k first last ⌝ }
+    requires { ⌜ last < length (now keys) ⌝ }
     ensures { λ r. ⌜ NotedAll (placesOf k 0 (now (keys .entry))) 0 (now (places .entry)) (now (places .exit)) r ⌝ }
 {
     let mut n: usize = 0;
-    let mut j: usize = 0;
-    while j < keys.len() {
+    let mut j = first;
+    while j <= last {
         n = note_if(keys[j] == k, j, n, places);
         j += 1;
     }
@@ -42,13 +44,20 @@ fn places_of(keys: &[usize], k: usize, places: &mut [usize]) -> usize
 }
 
 // Lists the right places that a left series of the key k meets, and counts them.
-pub fn met(keys: &[usize], k: usize, falls: bool, places: &mut [usize]) -> usize
+pub fn met(
+    keys: &[usize],
+    k: usize,
+    first: usize,
+    last: usize,
+    falls: bool,
+    places: &mut [usize],
+) -> usize
     requires { ⌜ length (now keys) ≤ maxSeries ⌝ }
+    requires { ⌜ KeyEnds (now keys) k first last ⌝ }
     ensures { λ r. ⌜ NotedAll (metPlaces falls (now (keys .entry)) k) 0 (now (places .entry)) (now (places .exit)) r ⌝ }
 {
-    let n = places_of(keys, k, places);
-    if 0 < n {
-        return n;
+    if first < keys.len() {
+        return places_of(keys, k, first, last, places);
     }
     note_if(falls, 0, 0, places)
 }

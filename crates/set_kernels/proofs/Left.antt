@@ -10,9 +10,9 @@ use Rattle.model.specs.Limits.{maxSeries}
 use Rattle.model.specs.Lists.{isEmpty}
 use Rattle.model.specs.Row.{onlyMissing, zipWith}
 use Rattle.plan.specs.Sets.{metPlaces, setRow, needsMatch, dropsEmpty, leftRow, leftAnswers}
-use Rattle.noting.specs.Places.{NotedAll, Within, RightSide}
+use Rattle.noting.specs.Places.{NotedAll, KeyEnds, Within, RightSide}
 use Rattle.noting.proofs.Noting.{noted-front, noted-length}
-use Rattle.noting.proofs.Meeting.{met-few, met-within}
+use Rattle.noting.proofs.Meeting.{met-one, met-few, met-within}
 use Rattle.set_points.specs.Points.{onReading}
 use Rattle.set_points.proofs.Points as Points
 
@@ -50,24 +50,33 @@ row-one rule rows (j ∷ []) x out h w e =
     let n : j * length x + length x - j * length x ≡ length x = omega arith in
     e ∙ (rw n (sym (Points.set-one rule rows j x (w .each 0 (omega arith)))))
 
--- the places that are met, noted at the front of an array of 512
+-- an array with room for the places that are met: one where the key has one at most, else 512
 
-module _ (falls : Bool) (p : ℕ) (keys rows : List ℕ) (side : RightSide falls p keys rows) (k : ℕ) (before after : List ℕ) (n : ℕ) (noted : NotedAll (metPlaces falls keys k) 0 before after n) (size : length before ≡ maxSeries) where
+pub room-one : (falls : Bool) (keys : List ℕ) (k first last : ℕ) (before : List ℕ) → KeyEnds keys k first last → first ≡ last → length before ≡ 1 → length (metPlaces falls keys k) ≤ length before
+room-one falls keys k first last before ends e size = omega (arith, met-one keys k first last ends e falls, size)
+
+pub room-all : (falls : Bool) (p : ℕ) (keys rows : List ℕ) (k : ℕ) (before : List ℕ) → RightSide falls p keys rows → length before ≡ maxSeries → length (metPlaces falls keys k) ≤ length before
+room-all falls p keys rows k before side size = omega (arith, met-few falls p keys rows side k, size)
+
+-- they are noted at its front
+
+module _ (falls : Bool) (keys : List ℕ) (k : ℕ) (before after : List ℕ) (n : ℕ) (noted : NotedAll (metPlaces falls keys k) 0 before after n) (room : length (metPlaces falls keys k) ≤ length before) where
   front : take n after ≡ metPlaces falls keys k
-  front = noted-front (metPlaces falls keys k) before after n noted (omega (arith, met-few falls p keys rows side k, size))
+  front = noted-front (metPlaces falls keys k) before after n noted room
 
   pub front-few : n ≤ length after
-  front-few = omega (arith, met-few falls p keys rows side k, noted .count, noted-length (metPlaces falls keys k) 0 before after n noted, size)
+  front-few = omega (arith, noted .count, noted-length (metPlaces falls keys k) 0 before after n noted, room)
 
   pub front-count : n ≡ length (take n after)
   front-count = sym (rw front (omega (arith, noted .count)))
 
-  pub front-within : Within p rows (take n after)
-  front-within = rw front (met-within falls p keys rows side k)
+  module _ (p : ℕ) (rows : List ℕ) where
+    pub front-within : RightSide falls p keys rows → Within p rows (take n after)
+    front-within side = rw front (met-within falls p keys rows side k)
 
-  module _ (rule : SetRule) (x : List ℕ) where
-    pub front-answers : (b : Bool) → b ≡ leftAnswers rule p rows (take n after) x → b ≡ leftAnswers rule p rows (metPlaces falls keys k) x
-    front-answers b e = e ∙ ap (λ (l : List ℕ). leftAnswers rule p rows l x) front
+    module _ (rule : SetRule) (x : List ℕ) where
+      pub front-answers : (b : Bool) → b ≡ leftAnswers rule p rows (take n after) x → b ≡ leftAnswers rule p rows (metPlaces falls keys k) x
+      front-answers b e = e ∙ ap (λ (l : List ℕ). leftAnswers rule p rows l x) front
 
-    pub front-row : (out : List ℕ) → out ≡ leftRow rule p rows (take n after) x → out ≡ leftRow rule p rows (metPlaces falls keys k) x
-    front-row out e = e ∙ ap (λ (l : List ℕ). leftRow rule p rows l x) front
+      pub front-row : (out : List ℕ) → out ≡ leftRow rule p rows (take n after) x → out ≡ leftRow rule p rows (metPlaces falls keys k) x
+      front-row out e = e ∙ ap (λ (l : List ℕ). leftRow rule p rows l x) front

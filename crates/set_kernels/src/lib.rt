@@ -3,7 +3,7 @@ use set_points::SetRule;
 ghost use mathlib.Core.Path.{_≡_};
 ghost use lib.ListN.{length};
 ghost use Rattle.plan.specs.Sets.{metPlaces, needsMatch, dropsEmpty, leftRow, leftAnswers};
-ghost use Rattle.noting.specs.Places.{Within, RightSide};
+ghost use Rattle.noting.specs.Places.{KeyEnds, Within, RightSide};
 ghost use Rattle.set_points.specs.Points.{meant};
 
 // Whether a rule drops a left series that meets no right one.
@@ -61,38 +61,55 @@ fn put_with(rule: SetRule, left: &[u64], rows: &[u64], places: &[usize], out: &m
     left_rows::set_row(rule, left, rows, places, out);
 }
 
-// Whether a left series of the key k is in the answer.
+// Whether a left series of the key k is in the answer; a key of one right place needs no long list.
 pub fn left_answers(
     rule: SetRule,
     falls: bool,
     left: &[u64],
     k: usize,
+    first: usize,
+    last: usize,
     keys: &[usize],
     rows: &[u64],
 ) -> bool
+    requires { ⌜ KeyEnds (now keys) k first last ⌝ }
     requires { ⌜ RightSide falls (length (now left)) (now keys) (now rows) ⌝ }
     ensures { λ r. ⌜ r ≡ leftAnswers (meant rule) (length (now (left .entry))) (now (rows .entry)) (metPlaces falls (now (keys .entry)) k) (now (left .entry)) ⌝ }
 {
+    if first == last {
+        let mut one = [0usize; 1];
+        let m = noting::met(keys, k, first, last, falls, &mut one);
+        return answers_with(rule, left, rows, &one[..m]);
+    }
     let mut places = [0usize; 512];
-    let m = noting::met(keys, k, falls, &mut places);
+    let m = noting::met(keys, k, first, last, falls, &mut places);
     answers_with(rule, left, rows, &places[..m])
 }
 
-// Writes the answer row of a left series of the key k.
+// Writes the answer row of a left series of the key k; a key of one right place needs no long list.
 pub fn put_left_row(
     rule: SetRule,
     falls: bool,
     left: &[u64],
     k: usize,
+    first: usize,
+    last: usize,
     keys: &[usize],
     rows: &[u64],
     out: &mut [u64],
 )
     requires { ⌜ length (now left) ≡ length (now out) ⌝ }
+    requires { ⌜ KeyEnds (now keys) k first last ⌝ }
     requires { ⌜ RightSide falls (length (now left)) (now keys) (now rows) ⌝ }
     ensures { λ _. ⌜ now (out .exit) ≡ leftRow (meant rule) (length (now (left .entry))) (now (rows .entry)) (metPlaces falls (now (keys .entry)) k) (now (left .entry)) ⌝ }
 {
+    if first == last {
+        let mut one = [0usize; 1];
+        let m = noting::met(keys, k, first, last, falls, &mut one);
+        put_with(rule, left, rows, &one[..m], out);
+        return;
+    }
     let mut places = [0usize; 512];
-    let m = noting::met(keys, k, falls, &mut places);
+    let m = noting::met(keys, k, first, last, falls, &mut places);
     put_with(rule, left, rows, &places[..m], out);
 }

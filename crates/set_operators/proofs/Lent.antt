@@ -24,8 +24,8 @@ bare-two array at h =
     impossible e = let z : false ≡ true = scalar-not array at (eqb-false (length at) 2 e) ∙ h in let o : _≡_ {A = ℕ} 0 1 = cc in omega arith
 
 module _ {p : ℕ} {larray lat lkeys left array at keys rows : List ℕ} (l : LentSide p larray lat lkeys left) (r : LentSide p array at keys rows) (h : p ≤ maxPoints) where
-  pub never-falls : BothLent false p larray lat lkeys left array at keys rows
-  never-falls = record { leftSide = l; rightSide = r; points = h; some = λ e. absurd (let o : _≡_ {A = ℕ} 0 1 = cc in omega arith) }
+  pub never-falls : {falls : Bool} → falls ≡ false → BothLent falls p larray lat lkeys left array at keys rows
+  never-falls n = record { leftSide = l; rightSide = r; points = h; some = λ e. absurd (let o : _≡_ {A = ℕ} 0 1 = cc in omega arith) }
 
   module _ {falls : Bool} (e : falls ≡ bareSide (labelsIn array at)) where
     pub falls-bare : BothLent falls p larray lat lkeys left array at keys rows

@@ -9,6 +9,7 @@ ghost use lib.ListN.{length};
 ghost use Rattle.operator.specs.Kinds.{whereFound, whereNone, filled};
 ghost use Rattle.model.specs.Limits.{maxPoints};
 ghost use Rattle.timeseries.specs.Sides.{labelsIn};
+ghost use Rattle.key_ends.specs.Codes.{SideEnds};
 ghost use Rattle.set_points.specs.Points.{meant};
 ghost use Rattle.set_rules.specs.Rules.{bareSide};
 ghost use Rattle.set_rules.specs.Sides.{LentSide, lentSides};
@@ -27,15 +28,17 @@ fn put_answer(
     rat: &[usize],
     rkeys: &[usize],
     right: &[u64],
+    ends: &[usize],
     list: &[usize],
     labels: &mut [u8],
     out: &mut [u64],
 ) -> usize
     requires { ⌜ RowsLent falls p (now llabels) (now lat) (now lkeys) (now left) (now rlabels) (now rat) (now rkeys) (now right) (now list) ⌝ }
+    requires { ⌜ SideEnds (now rkeys) (now lkeys) (now ends) ⌝ }
     requires { ⌜ Roomy (rowSeries (meant rule) falls p (now llabels) (now lat) (now lkeys) (now left) (now rlabels) (now rat) (now rkeys) (now right)) p (now list) (now labels) (now out) ⌝ }
     ensures { λ r. ⌜ AnswerPut (rowSeries (meant rule) falls p (now (llabels .entry)) (now (lat .entry)) (now (lkeys .entry)) (now (left .entry)) (now (rlabels .entry)) (now (rat .entry)) (now (rkeys .entry)) (now (right .entry))) (now (list .entry)) (now (labels .entry)) (now (out .entry)) (now (labels .exit)) (now (out .exit)) r ⌝ }
 {
-    set_rules::put_rows(rule, falls, p, lkeys, left, rkeys, right, list, out);
+    set_rules::put_rows(rule, falls, p, lkeys, left, rkeys, right, ends, list, out);
     set_rules::put_records(llabels, lat, rlabels, rat, list, labels)
 }
 
@@ -52,11 +55,13 @@ fn answer_rows(
     rat: &[usize],
     rkeys: &[usize],
     right: &[u64],
+    ends: &[usize],
     list: &[usize],
     labels: &mut [u8],
     out: &mut [u64],
 ) -> Outcome
     requires { ⌜ RowsLent falls p (now llabels) (now lat) (now lkeys) (now left) (now rlabels) (now rat) (now rkeys) (now right) (now list) ⌝ }
+    requires { ⌜ SideEnds (now rkeys) (now lkeys) (now ends) ⌝ }
     ensures { λ r. ⌜ RowsAnswered (lentSides (meant rule) falls false p (now (llabels .entry)) (now (lat .entry)) (now (lkeys .entry)) (now (left .entry)) (now (rlabels .entry)) (now (rat .entry)) (now (rkeys .entry)) (now (right .entry))) (now (list .entry)) (now (labels .entry)) (now (out .entry)) (now (labels .exit)) (now (out .exit)) r ⌝ }
 {
     let t = set_rules::tally_rows(llabels, lat, rlabels, rat, list);
@@ -76,6 +81,7 @@ fn answer_rows(
                 rat,
                 rkeys,
                 right,
+                ends,
                 list,
                 labels,
                 out,
@@ -109,8 +115,21 @@ fn run_set(
     requires { ⌜ BothLent falls p (now llabels) (now lat) (now lkeys) (now left) (now rlabels) (now rat) (now rkeys) (now right) ⌝ }
     ensures { λ r. ⌜ SetAnswered (lentSides (meant rule) falls adds p (now (llabels .entry)) (now (lat .entry)) (now (lkeys .entry)) (now (left .entry)) (now (rlabels .entry)) (now (rat .entry)) (now (rkeys .entry)) (now (right .entry))) (now (labels .entry)) (now (out .entry)) (now (labels .exit)) (now (out .exit)) r ⌝ }
 {
+    let mut ends = [0usize; 512];
+    key_ends::side_ends(rkeys, lkeys, &mut ends);
     let mut list = [0usize; 512];
-    let n = set_rules::list_rows(rule, falls, adds, p, lkeys, left, rkeys, right, &mut list);
+    let n = set_rules::list_rows(
+        rule,
+        falls,
+        adds,
+        p,
+        lkeys,
+        left,
+        rkeys,
+        right,
+        &ends,
+        &mut list,
+    );
     if 512 < n {
         return Outcome::TooLarge;
     }
@@ -126,6 +145,7 @@ fn run_set(
         rat,
         rkeys,
         right,
+        &ends,
         &list[..n],
         labels,
         out,

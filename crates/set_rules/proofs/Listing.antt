@@ -12,12 +12,11 @@ use lib.Seq.{drop-cons, sets}
 use Rattle.operator.specs.Kinds.{SetRule}
 use Rattle.model.specs.Limits.{maxSeries}
 use Rattle.model.specs.Labels.{Labels}
-use Rattle.plan.specs.Keys.{firstOf}
+use Rattle.plan.specs.Keys.{firstOf, lastOf}
 use Rattle.plan.specs.Merging.{rowAt}
 use Rattle.plan.specs.Sets.{SetSides, metPlaces, leftAnswers, leftsFrom, rightsFrom, setRows}
-use Rattle.key_places.specs.Places as Places
-use Rattle.merging.specs.Laws.{first-places}
-use Rattle.noting.specs.Places.{NotedIf, NotedAll, RightSide}
+use Rattle.key_ends.specs.Codes.{SideEnds, sideFirst, sideLast, side-first, side-last, ends-at}
+use Rattle.noting.specs.Places.{NotedIf, NotedAll, KeyEnds, RightSide}
 use Rattle.noting.proofs.Noting.{Noting, noting-starts, noting-turn, noting-length, noting-ends}
 use Rattle.set_rules.specs.Sides.{RowSide, rowSides}
 
@@ -30,6 +29,21 @@ row-wide p rows x i h e = rw e (simp (length-take, length-drop) (omega arith))
 
 pub meets-row : (falls : Bool) (p : ℕ) (lkeys left keys rows x : List ℕ) (i : ℕ) → RightSide falls p keys rows → RowSide p lkeys left → i < length lkeys → x ≡ rowAt p left i → RightSide falls (length x) keys rows
 meets-row falls p lkeys left keys rows x i r s h e = rw (row-wide p left x i (row-in p lkeys left i s h) e) r
+
+-- the places of a key, read off a side's codes
+module _ (keys asked ends : List ℕ) (e : SideEnds keys asked ends) (i : ℕ) (h : i < length asked) where
+  pub ends-room : i < length ends
+  ends-room = omega (arith, e .room)
+
+  module _ (few : length keys ≤ maxSeries) where
+    first-here : sideFirst (getD ends i 0) ≡ firstOf keys (getD asked i 0)
+    first-here = side-first keys (getD asked i 0) (getD ends i 0) (ends-at keys asked ends few e i h)
+
+    last-here : sideLast (getD ends i 0) ≡ lastOf keys (getD asked i 0)
+    last-here = side-last keys (getD asked i 0) (getD ends i 0) (ends-at keys asked ends few e i h)
+
+  pub key-ends : (falls : Bool) (p : ℕ) (rows : List ℕ) → RightSide falls p keys rows → (first last : ℕ) → first ≡ sideFirst (getD ends i 0) → last ≡ sideLast (getD ends i 0) → KeyEnds keys (getD asked i 0) first last
+  key-ends falls p rows side first last f l = record { first-place = f ∙ first-here (side .few); last-place = l ∙ last-here (side .few) }
 
 noted-most : (b : Bool) (x n i : ℕ) (list later : List ℕ) (r : ℕ) → n ≤ i → NotedIf b x n list later r → r ≤ i + 1
 noted-most true x n i list later r h p = omega (arith, p .count)
@@ -91,10 +105,10 @@ module _ (lkeys keys : List ℕ) (n₀ : ℕ) (before : List ℕ) where
     unfolding rightsFrom
     right-ends h = noting-ends (rightsFrom lkeys 0 keys) n₀ before n list (rw (drop-of-length-le keys h) at (inv .noting))
 
-    module _ (h : j < length keys) (f : ℕ) (told : f ≡ Places.firstOf lkeys (getD keys j 0)) where
+    module _ (h : j < length keys) (few : length lkeys ≤ maxSeries) (ends : List ℕ) (e : SideEnds lkeys keys ends) (f : ℕ) (told : f ≡ sideFirst (getD ends j 0)) where
       next-right : rightsFrom lkeys j (drop j keys) ≡ cond (eqb f (length lkeys)) ((length lkeys + j) ∷ rightsFrom lkeys (j + 1) (drop (j + 1) keys)) (rightsFrom lkeys (j + 1) (drop (j + 1) keys))
       unfolding rightsFrom
-      next-right = rw (drop-cons keys j 0 h, told, first-places (getD keys j 0) lkeys, add-one)
+      next-right = rw (drop-cons keys j 0 h, told, first-here lkeys keys ends e j h few, add-one)
 
       pub right-turn : (later : List ℕ) (r : ℕ) → NotedIf (eqb f (length lkeys)) (length lkeys + j) n list later r → RightListing r (j + 1) later
       right-turn later r q = record {

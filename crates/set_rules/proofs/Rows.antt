@@ -48,9 +48,6 @@ left-count rule p rows places x = go (isEmpty places)
     go false = set-count rule p rows places x
 
 -- a row and the part that it is written into have one width
-pub left-meets : (p : ℕ) (lkeys left : List ℕ) (x : ℕ) (row out : List ℕ) → RowSide p lkeys left → x < length lkeys → row ≡ rowAt p left x → length out ≡ p → length row ≡ length out
-left-meets p lkeys left x row out s h e w = row-wide p left row x (row-in p lkeys left x s h) e ∙ sym w
-
 pub right-start : (falls : Bool) (p n : ℕ) (keys rows : List ℕ) (x : ℕ) → RightSide falls p keys rows → n ≤ x → x < n + length keys → (x - n) * p + p ≤ length rows
 right-start falls p n keys rows x s h k = let l : x - n < length keys = omega arith in rw (s .size) (rw (← suc-mul) (mul-le-mul-right p l))
 

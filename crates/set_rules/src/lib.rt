@@ -18,6 +18,7 @@ ghost use Rattle.answers.specs.Outcomes.{startingWith};
 ghost use Rattle.answers.specs.Tallies.{TallyOf, recordsOf};
 ghost use Rattle.set_points.specs.Points.{meant};
 ghost use Rattle.noting.specs.Places.{NotedAll, RightSide};
+ghost use Rattle.key_ends.specs.Codes.{SideEnds};
 ghost use Rattle.set_rules.specs.Rules.{bareSide};
 ghost use Rattle.set_rules.specs.Sides.{SizedRecord, RecordSide, RowSide, rowSides, rowLabels, rowReadings, RowsBelow, RecordsPut};
 
@@ -32,7 +33,7 @@ pub fn is_scalar(array: &[u8], at: &[usize]) -> bool
     timeseries::record(array, at, 0).len() == 2
 }
 
-// Lists the left series of the answer.
+// Lists the left series of the answer, by the right places of their keys.
 fn list_left(
     rule: SetRule,
     falls: bool,
@@ -41,20 +42,25 @@ fn list_left(
     left: &[u64],
     keys: &[usize],
     rows: &[u64],
+    ends: &[usize],
     list: &mut [usize],
 ) -> usize
     requires { ⌜ RowSide p (now lkeys) (now left) ⌝ }
     requires { ⌜ RightSide falls p (now keys) (now rows) ⌝ }
+    requires { ⌜ SideEnds (now keys) (now lkeys) (now ends) ⌝ }
     ensures { λ r. ⌜ NotedAll (leftsFrom (rowSides (meant rule) falls false p (now (lkeys .entry)) (now (left .entry)) (now (keys .entry)) (now (rows .entry))) 0 (now (lkeys .entry))) 0 (now (list .entry)) (now (list .exit)) r ⌝ }
 {
     let mut n: usize = 0;
     let mut i: usize = 0;
     while i < lkeys.len() {
+        let e = ends[i];
         let here = set_kernels::left_answers(
             rule,
             falls,
             timeseries::row(left, p, i),
             lkeys[i],
+            key_ends::side_first(e),
+            key_ends::side_last(e),
             keys,
             rows,
         );
@@ -64,17 +70,24 @@ fn list_left(
     n
 }
 
-// Lists the right series whose key no left one has, behind the n before them.
-fn list_right(lkeys: &[usize], keys: &[usize], n: usize, list: &mut [usize]) -> usize
+// Lists the right series whose key no left one has, behind the n before them, by the left places of their keys.
+fn list_right(
+    lkeys: &[usize],
+    keys: &[usize],
+    ends: &[usize],
+    n: usize,
+    list: &mut [usize],
+) -> usize
     requires { ⌜ length (now lkeys) ≤ maxSeries ⌝ }
     requires { ⌜ length (now keys) ≤ maxSeries ⌝ }
+    requires { ⌜ SideEnds (now lkeys) (now keys) (now ends) ⌝ }
     requires { ⌜ n ≤ maxSeries ⌝ }
     ensures { λ r. ⌜ NotedAll (rightsFrom (now (lkeys .entry)) 0 (now (keys .entry))) n (now (list .entry)) (now (list .exit)) r ⌝ }
 {
     let mut r = n;
     let mut j: usize = 0;
     while j < keys.len() {
-        let here = key_places::first_of(lkeys, keys[j]) == lkeys.len();
+        let here = key_ends::side_first(ends[j]) == lkeys.len();
         r = noting::note_if(here, lkeys.len() + j, r, list);
         j += 1;
     }
@@ -91,15 +104,19 @@ pub fn list_rows(
     left: &[u64],
     keys: &[usize],
     rows: &[u64],
+    ends: &[usize],
     list: &mut [usize],
 ) -> usize
     requires { ⌜ RowSide p (now lkeys) (now left) ⌝ }
     requires { ⌜ RightSide falls p (now keys) (now rows) ⌝ }
+    requires { ⌜ SideEnds (now keys) (now lkeys) (now ends) ⌝ }
     ensures { λ r. ⌜ NotedAll (setRows (rowSides (meant rule) falls adds p (now (lkeys .entry)) (now (left .entry)) (now (keys .entry)) (now (rows .entry)))) 0 (now (list .entry)) (now (list .exit)) r ⌝ }
 {
-    let n = list_left(rule, falls, p, lkeys, left, keys, rows, list);
+    let n = list_left(rule, falls, p, lkeys, left, keys, rows, ends, list);
     if adds {
-        return list_right(lkeys, keys, n, list);
+        let mut back = [0usize; 512];
+        key_ends::side_ends(lkeys, keys, &mut back);
+        return list_right(lkeys, keys, &back, n, list);
     }
     n
 }
@@ -209,19 +226,32 @@ fn put_row(
     left: &[u64],
     keys: &[usize],
     rows: &[u64],
+    ends: &[usize],
     x: usize,
     out: &mut [u64],
 )
     requires { ⌜ length (now out) ≡ p ⌝ }
     requires { ⌜ RowSide p (now lkeys) (now left) ⌝ }
     requires { ⌜ RightSide falls p (now keys) (now rows) ⌝ }
+    requires { ⌜ SideEnds (now keys) (now lkeys) (now ends) ⌝ }
     requires { ⌜ x < length (now lkeys) + length (now keys) ⌝ }
     ensures { λ _. ⌜ now (out .exit) ≡ rowReadings (rowSides (meant rule) falls false p (now (lkeys .entry)) (now (left .entry)) (now (keys .entry)) (now (rows .entry))) x ⌝ }
 {
     let n = lkeys.len();
     if x < n {
         let k = lkeys[x];
-        set_kernels::put_left_row(rule, falls, timeseries::row(left, p, x), k, keys, rows, out);
+        let e = ends[x];
+        set_kernels::put_left_row(
+            rule,
+            falls,
+            timeseries::row(left, p, x),
+            k,
+            key_ends::side_first(e),
+            key_ends::side_last(e),
+            keys,
+            rows,
+            out,
+        );
         return;
     }
     answers::copy_row(out, timeseries::row(rows, p, x - n));
@@ -236,11 +266,13 @@ pub fn put_rows(
     left: &[u64],
     keys: &[usize],
     rows: &[u64],
+    ends: &[usize],
     list: &[usize],
     out: &mut [u64],
 )
     requires { ⌜ RowSide p (now lkeys) (now left) ⌝ }
     requires { ⌜ RightSide falls p (now keys) (now rows) ⌝ }
+    requires { ⌜ SideEnds (now keys) (now lkeys) (now ends) ⌝ }
     requires { ⌜ RowsBelow (length (now lkeys) + length (now keys)) (now list) ⌝ }
     requires { ⌜ length (now list) ≤ maxSeries ⌝ }
     requires { ⌜ p ≤ maxPoints ⌝ }
@@ -259,6 +291,7 @@ pub fn put_rows(
             left,
             keys,
             rows,
+            ends,
             list[r],
             &mut out[from..to],
         );

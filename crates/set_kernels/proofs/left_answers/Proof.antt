@@ -1,6 +1,6 @@
 -- `left_answers` meets its contract. Assumes nothing.
 use borrow.Author.Needs.{needs}
-use Rattle.set_kernels.proofs.Left.{front-few, front-count, front-within, front-answers}
+use Rattle.set_kernels.proofs.Left.{room-one, room-all, front-few, front-count, front-within, front-answers}
 use Rattle.set_kernels.proofs.left_answers.Statement.{statement}
 use Rattle.set_kernels.proofs.left_answers.Tie as tie
 
@@ -10,7 +10,13 @@ left-answers-spec =
     (tie.spec
     (λ c. search needs)
     (λ c κs. search needs)
-    (λ c. search front-few)
-    (λ c. search front-count)
-    (λ c κs. search front-within)
-    (λ c. search front-answers))
+    (λ c. search (front-few, room-one))
+    (λ c. search (front-count, room-one))
+    (λ c κs. search (front-within, room-one))
+    (λ c. search (front-answers, room-one))
+    (λ c. search needs)
+    (λ c κs. search needs)
+    (λ c. search (front-few, room-all))
+    (λ c. search (front-count, room-all))
+    (λ c κs. search (front-within, room-all))
+    (λ c. search (front-answers, room-all)))

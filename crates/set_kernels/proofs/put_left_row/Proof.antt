@@ -1,6 +1,6 @@
 -- `put_left_row` meets its contract. Assumes nothing.
 use borrow.Author.Needs.{needs}
-use Rattle.set_kernels.proofs.Left.{front-few, front-count, front-within, front-row}
+use Rattle.set_kernels.proofs.Left.{room-one, room-all, front-few, front-count, front-within, front-row}
 use Rattle.set_kernels.proofs.put_left_row.Statement.{statement}
 use Rattle.set_kernels.proofs.put_left_row.Tie as tie
 
@@ -10,8 +10,15 @@ put-left-row-spec =
     (tie.spec
     (λ c. search needs)
     (λ c κs. search needs)
-    (λ c. search front-few)
-    (λ c. search front-count)
-    (λ c κs. (search needs, search front-within))
+    (λ c. search (front-few, room-one))
+    (λ c. search (front-count, room-one))
+    (λ c κs. (search needs, search (front-within, room-one)))
     (λ c. search needs)
-    (λ c. search front-row))
+    (λ c. search (front-row, room-one))
+    (λ c. search needs)
+    (λ c κs. search needs)
+    (λ c. search (front-few, room-all))
+    (λ c. search (front-count, room-all))
+    (λ c κs. (search needs, search (front-within, room-all)))
+    (λ c. search needs)
+    (λ c. search (front-row, room-all)))

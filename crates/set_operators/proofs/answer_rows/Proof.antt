@@ -6,7 +6,7 @@ use Rattle.set_operators.proofs.answer_rows.Tie as tie
 
 tally-rows-requires : tie.Need-tally-rows-requires
 tally-rows-requires c κs =
-    let lent = c .before .before .before .before .before .before .before .before .before .before .before .pre in
+    let lent = c .before .before .before .before .before .before .before .before .before .before .before .before .pre .0 in
     (lent .sides .leftSide .records, (lent .sides .rightSide .records, (rows-below lent, lent .few)))
 
 room-for-requires : tie.Need-room-for-requires
@@ -23,15 +23,16 @@ enum-told-3 c = search needs
 
 put-answer-requires : tie.Need-put-answer-requires
 put-answer-requires c κs =
-    let lent = c .before .before .before .before .before .before .before .before .before .before .before .before .before .before .before .before .before .pre in
+    let pre = c .before .before .before .before .before .before .before .before .before .before .before .before .before .before .before .before .before .before .pre in
+    let lent = pre .0 in
     let tally = c .before .before .before .before .before .tally-rows .ensures in
     let asked = c .before .before .before .before .room-for .ensures in
     let told = c .before .before .enum-told3 .given .1 in
-    (lent, rows-roomy lent _ _ _ _ tally _ asked told)
+    (lent, (pre .1, rows-roomy lent _ _ _ _ tally _ asked told))
 
 returns : tie.Need-returns
 returns c =
-    let lent = c .before .before .before .before .before .before .before .before .before .before .before .before .before .before .before .pre in
+    let lent = c .before .before .before .before .before .before .before .before .before .before .before .before .before .before .before .before .pre .0 in
     let tally = c .before .before .before .tally-rows .ensures in
     let asked = c .before .before .room-for .ensures in
     let told = c .enum-told .given .1 in
@@ -39,7 +40,7 @@ returns c =
 
 returns-2 : tie.Need-returns-2
 returns-2 c =
-    let lent = c .before .before .before .before .before .before .before .before .before .before .before .before .before .before .before .pre in
+    let lent = c .before .before .before .before .before .before .before .before .before .before .before .before .before .before .before .before .pre .0 in
     let tally = c .before .before .before .tally-rows .ensures in
     let asked = c .before .before .room-for .ensures in
     let told = c .enum-told2 .given .1 in
@@ -53,7 +54,7 @@ same-length-2 c = search needs
 
 returns-3 : tie.Need-returns-3
 returns-3 c =
-    let lent = c .before .before .before .before .before .before .before .before .before .before .before .before .before .before .before .before .before .before .before .before .before .before .pre in
+    let lent = c .before .before .before .before .before .before .before .before .before .before .before .before .before .before .before .before .before .before .before .before .before .before .before .pre .0 in
     let tally = c .before .before .before .before .before .before .before .before .before .before .tally-rows .ensures in
     let asked = c .before .before .before .before .before .before .before .before .before .room-for .ensures in
     let told = c .before .before .before .before .before .before .before .enum-told3 .given .1 in

@@ -6,15 +6,15 @@ use Rattle.set_operators.proofs.put_answer.Tie as tie
 
 put-rows-requires : tie.Need-put-rows-requires
 put-rows-requires c κs =
-    let pre = c .before .before .before .before .before .before .before .before .before .before .before .before .pre in
+    let pre = c .before .before .before .before .before .before .before .before .before .before .before .before .before .pre in
     let lent = pre .0 in
-    (lent .sides .leftSide .readings, (right-lent (lent .sides), (lent .below, (lent .few, (lent .sides .points, pre .1 .readingPart)))))
+    (lent .sides .leftSide .readings, (right-lent (lent .sides), (pre .1 .0, (lent .below, (lent .few, (lent .sides .points, pre .1 .1 .readingPart))))))
 
 put-records-requires : tie.Need-put-records-requires
 put-records-requires c κs =
-    let pre = c .before .before .before .before .before .before .before .before .before .before .before .before .before .before .before .before .pre in
+    let pre = c .before .before .before .before .before .before .before .before .before .before .before .before .before .before .before .before .before .pre in
     let lent = pre .0 in
-    (lent .sides .leftSide .records, (lent .sides .rightSide .records, (rows-below lent, pre .1 .labelPart)))
+    (lent .sides .leftSide .records, (lent .sides .rightSide .records, (rows-below lent, pre .1 .1 .labelPart)))
 
 same-length : tie.Need-same-length
 same-length c = search needs

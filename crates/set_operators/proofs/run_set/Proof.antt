@@ -6,55 +6,50 @@ use borrow.Author.Needs.{needs}
 use Rattle.set_operators.proofs.run_set.Statement.{statement}
 use Rattle.set_operators.proofs.run_set.Tie as tie
 
-slice-aggregate-list-rows : tie.Need-slice-aggregate-list-rows
-slice-aggregate-list-rows c = search needs
+side-ends-requires : tie.Need-side-ends-requires
+side-ends-requires c κs = let lent = c .before .before .before .before .before .before .before .before .before .before .before .pre in (lent .rightSide .readings .few, lent .leftSide .readings .few)
 
 list-rows-requires : tie.Need-list-rows-requires
-list-rows-requires c κs = let lent = c .before .before .before .before .before .before .before .before .before .before .before .pre in (lent .leftSide .readings, right-lent lent)
+list-rows-requires c κs = let lent = c .before .before .before .before .before .before .before .before .before .before .before .before .before .before .before .pre in (lent .leftSide .readings, (right-lent lent, c .before .before .before .side-ends .ensures))
 
 returns : tie.Need-returns
 returns c =
-    let lent = c .before .before .before .before .before .before .before .before .before .before .before .before .before .before .pre in
+    let lent = c .before .before .before .before .before .before .before .before .before .before .before .before .before .before .before .before .before .before .pre in
     let noted = c .before .before .list-rows .ensures in
     too-many-listed lent _ _ noted _ _ (c .if1 .taken)
 
-array-share-prefix-list : tie.Need-array-share-prefix-list
-array-share-prefix-list c = search needs
-
-slice-aggregate-answer-rows : tie.Need-slice-aggregate-answer-rows
-slice-aggregate-answer-rows c =
-    let lent = c .before .before .before .before .before .before .before .before .before .before .before .before .before .before .before .pre in
-    let noted = c .before .before .before .list-rows .ensures in
-    listed-count lent _ _ noted refl (c .before .if1 .left)
+slice-aggregate-answer-rows-2 : tie.Need-slice-aggregate-answer-rows-2
+slice-aggregate-answer-rows-2 c =
+    let lent = c .before .before .before .before .before .before .before .before .before .before .before .before .before .before .before .before .before .before .before .before .pre in
+    let noted = c .before .before .before .before .list-rows .ensures in
+    listed-count lent _ _ noted refl (c .before .before .if1 .left)
 
 answer-rows-requires : tie.Need-answer-rows-requires
 answer-rows-requires c κs =
-    let lent = c .before .before .before .before .before .before .before .before .before .before .before .before .before .before .before .before .before .pre in
-    let noted = c .before .before .before .before .before .list-rows .ensures in
-    rows-lent lent _ _ noted refl (c .before .before .before .if1 .left)
-
-same-length : tie.Need-same-length
-same-length c = search needs
-
-same-length-2 : tie.Need-same-length-2
-same-length-2 c = search needs
+    let lent = c .before .before .before .before .before .before .before .before .before .before .before .before .before .before .before .before .before .before .before .before .before .before .pre in
+    let noted = c .before .before .before .before .before .before .list-rows .ensures in
+    (rows-lent lent _ _ noted refl (c .before .before .before .before .if1 .left), c .before .before .before .before .before .before .before .before .before .before .side-ends .ensures)
 
 returns-2 : tie.Need-returns-2
 returns-2 c =
-    let lent = c .before .before .before .before .before .before .before .before .before .before .before .before .before .before .before .before .before .before .before .before .before .before .pre in
-    let noted = c .before .before .before .before .before .before .before .before .before .before .list-rows .ensures in
-    listed-answered lent _ _ noted refl (c .before .before .before .before .before .before .before .before .if1 .left) _ _ _ _ _ (c .before .before .before .before .answer-rows .ensures)
+    let lent = c .before .before .before .before .before .before .before .before .before .before .before .before .before .before .before .before .before .before .before .before .before .before .before .before .before .before .before .pre in
+    let noted = c .before .before .before .before .before .before .before .before .before .before .before .list-rows .ensures in
+    listed-answered lent _ _ noted refl (c .before .before .before .before .before .before .before .before .before .if1 .left) _ _ _ _ _ (c .before .before .before .before .answer-rows .ensures)
 
 pub run-set-spec : {M : Type 1} → statement M
 run-set-spec =
     tie.close
     (tie.spec
-    slice-aggregate-list-rows
+    (λ c. search needs)
+    side-ends-requires
+    (λ c. search needs)
+    (λ c. search needs)
     list-rows-requires
     returns
-    array-share-prefix-list
-    slice-aggregate-answer-rows
+    (λ c. search needs)
+    (λ c. search needs)
+    slice-aggregate-answer-rows-2
     answer-rows-requires
-    same-length
-    same-length-2
+    (λ c. search needs)
+    (λ c. search needs)
     returns-2)

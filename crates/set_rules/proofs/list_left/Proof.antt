@@ -1,65 +1,28 @@
-use Rattle.set_points.specs.Points.{meant}
+-- `list_left` meets its contract. Assumes nothing.
 use Prim.Native.Nat.{_-_}
 use lib.ListN.{length}
-use Rattle.set_rules.proofs.Listing.{row-in, meets-row, LeftListing, left-starts, left-turn, left-length, left-ends}
+use Rattle.set_points.specs.Points.{meant}
+use Rattle.set_rules.proofs.Listing.{row-in, ends-room, key-ends, meets-row, LeftListing, left-starts, left-turn, left-length, left-ends}
 use borrow.Author.Needs.{needs}
 use Rattle.set_rules.proofs.list_left.Statement.{statement}
 use Rattle.set_rules.proofs.list_left.Tie as tie
-use Rattle.set_rules.proofs.list_left.Reads as reads
-use Rattle.set_rules.proofs.list_left.Lts as lts
-use Rattle.set_kernels.proofs.left_answers.Reads as left-answers-reads
-use Rattle.noting.proofs.note_if.Reads as note-if-reads
-use Rattle.timeseries.proofs.row.Reads as row-reads
 
 abbrev Inv-loop : tie.InvT-loop
-Inv-loop rule falls p lkeys left keys rows list₀ n₀ i₀ list n i = LeftListing (meant rule) falls p lkeys left keys rows list₀ n i list
+Inv-loop rule falls p lkeys left keys rows ends list₀ n₀ i₀ list n i = LeftListing (meant rule) falls p lkeys left keys rows list₀ n i list
 
 abbrev μ-loop : tie.MeasureT-loop
-μ-loop rule falls p lkeys left keys rows list₀ n₀ i₀ list n i = length lkeys - i
+μ-loop rule falls p lkeys left keys rows ends list₀ n₀ i₀ list n i = length lkeys - i
 
--- src/lib.rt:93:5
-loop-holds : tie.Need-loop-holds Inv-loop μ-loop
-loop-holds c = search left-starts
-
--- src/lib.rt:97:13
-row-requires : tie.Need-row-requires Inv-loop μ-loop
-row-requires c κs = search row-in
-
--- src/lib.rt:98:13
-mul-left-answers : tie.Need-mul-left-answers Inv-loop μ-loop
-mul-left-answers c = search needs
-
--- src/lib.rt:98:13
-shared-slice-read-left-answers : tie.Need-shared-slice-read-left-answers Inv-loop μ-loop
-shared-slice-read-left-answers c = search needs
-
--- src/lib.rt:94:13
 left-answers-requires : tie.Need-left-answers-requires Inv-loop μ-loop
-left-answers-requires c κs = search meets-row
+left-answers-requires c κs =
+    let turn = c .before .before .before .before .before in
+    let pre = turn .before .before .before .before .before .before .before .before .pre in
+    (key-ends _ _ _ (pre .1 .1) _ (turn .loop-test .taken) _ _ _ (pre .1 .0) _ _ (c .before .side-first .ensures) (c .side-last .ensures), meets-row _ _ _ _ _ _ _ _ (pre .1 .0) (pre .0) (turn .loop-test .taken) (c .before .before .before .row .ensures))
 
--- src/lib.rt:102:9
-note-if-requires : tie.Need-note-if-requires Inv-loop μ-loop
-note-if-requires c κs = search needs
-
--- src/lib.rt:103:9
-add-i : tie.Need-add-i Inv-loop μ-loop
-add-i c = search needs
-
--- src/lib.rt:93:5
-loop-less : tie.Need-loop-less Inv-loop μ-loop
-loop-less c = search needs
-
--- src/lib.rt:93:5
 loop-again : tie.Need-loop-again Inv-loop μ-loop
-loop-again c = search left-turn
-
--- src/lib.rt:77:1
-same-length : tie.Need-same-length Inv-loop μ-loop
-same-length c = search left-length
-
--- src/lib.rt:77:1
-returns : tie.Need-returns Inv-loop μ-loop
-returns c = search left-ends
+loop-again c =
+    let turn = c .before .before .before .before .before .before .before .before .before .before in
+    left-turn _ _ _ _ _ _ _ _ _ _ _ (turn .before .loop .inv) (turn .before .before .before .before .before .before .before .before .pre .0) (turn .loop-test .taken) _ (c .before .before .before .before .before .before .before .before .row .ensures) _ (c .before .before .before .before .left-answers .ensures) _ _ (c .before .before .note-if .ensures)
 
 pub list-left-spec : {M : Type 1} → statement M
 list-left-spec =
@@ -67,14 +30,18 @@ list-left-spec =
     (tie.spec
     Inv-loop
     μ-loop
-    loop-holds
-    row-requires
-    mul-left-answers
-    shared-slice-read-left-answers
+    (λ c. left-starts _ _ _ _ _ _ _ _)
+    (λ c. search needs)
+    (λ c. search ends-room)
+    (λ c κs. search row-in)
+    (λ c. search needs)
+    (λ c. search needs)
+    (λ c κs. search needs)
+    (λ c κs. search needs)
     left-answers-requires
-    note-if-requires
-    add-i
-    loop-less
+    (λ c κs. search needs)
+    (λ c. search needs)
+    (λ c. search needs)
     loop-again
-    same-length
-    returns)
+    (λ c. search left-length)
+    (λ c. search left-ends))

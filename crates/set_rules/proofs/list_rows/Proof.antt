@@ -1,37 +1,25 @@
+-- `list_rows` meets its contract. Assumes nothing.
 use Rattle.set_rules.proofs.Listing.{noted-few, rows-added, rows-left}
 use borrow.Author.Needs.{needs}
 use Rattle.set_rules.proofs.list_rows.Statement.{statement}
 use Rattle.set_rules.proofs.list_rows.Tie as tie
-use Rattle.set_rules.proofs.list_rows.Reads as reads
-use Rattle.set_rules.proofs.list_rows.Lts as lts
-use Rattle.set_rules.proofs.list_left.Reads as list-left-reads
-use Rattle.set_rules.proofs.list_right.Reads as list-right-reads
 
--- src/lib.rt:141:9
-list-left-requires : tie.Need-list-left-requires
-list-left-requires c κs = search needs
-
--- src/lib.rt:143:9
 list-right-requires : tie.Need-list-right-requires
-list-right-requires c κs = (search needs, (search needs, search noted-few))
-
--- src/lib.rt:143:9
-same-length : tie.Need-same-length
-same-length c = search needs
-
--- src/lib.rt:143:9
-returns : tie.Need-returns
-returns c = search rows-added
-
--- src/lib.rt:126:1
-same-length-2 : tie.Need-same-length-2
-same-length-2 c = search needs
-
--- src/lib.rt:126:1
-returns-2 : tie.Need-returns-2
-returns-2 c = search rows-left
+list-right-requires c κs =
+    let listed = c .before .before .before .before .before .before .before .before in
+    let pre = listed .before .before .before .before .before .before .before .before .pre in
+    (search needs, (search needs, (c .before .before .before .side-ends .ensures, noted-few _ _ _ _ _ _ _ (pre .0) (listed .list-left .ensures))))
 
 pub list-rows-spec : {M : Type 1} → statement M
 list-rows-spec =
     tie.close
-    (tie.spec list-left-requires list-right-requires same-length returns same-length-2 returns-2)
+    (tie.spec
+    (λ c κs. search needs)
+    (λ c. search needs)
+    (λ c κs. search needs)
+    (λ c. search needs)
+    list-right-requires
+    (λ c. search needs)
+    (λ c. rows-added _ _ _ _ _ _ _ _ _ _ _ _ _ (c .before .before .before .before .before .before .before .before .if1 .taken) (c .before .before .before .before .before .before .before .before .before .before .before .list-left .ensures) (c .before .before .list-right .ensures))
+    (λ c. search needs)
+    (λ c. rows-left _ _ _ _ _ _ _ _ _ _ _ (c .if1 .left) (c .before .before .before .list-left .ensures)))

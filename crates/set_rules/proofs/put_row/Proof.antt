@@ -1,65 +1,39 @@
-use Rattle.set_rules.proofs.Listing.{row-in, meets-row}
-use Rattle.set_rules.proofs.Rows.{left-meets, left-is, right-start, right-meets, right-is}
+-- `put_row` meets its contract. Assumes nothing.
+use mathlib.Core.Path.{sym, _∙_}
+use Rattle.set_rules.proofs.Listing.{row-in, row-wide, ends-room, key-ends, meets-row}
+use Rattle.set_rules.proofs.Rows.{left-is, right-start, right-meets, right-is}
 use borrow.Author.Needs.{needs}
 use Rattle.set_rules.proofs.put_row.Statement.{statement}
 use Rattle.set_rules.proofs.put_row.Tie as tie
-use Rattle.set_rules.proofs.put_row.Reads as reads
-use Rattle.set_rules.proofs.put_row.Lts as lts
-use Rattle.answers.proofs.copy_row.Reads as copy-row-reads
-use Rattle.set_kernels.proofs.put_left_row.Reads as put-left-row-reads
-use Rattle.timeseries.proofs.row.Reads as row-reads
 
--- src/lib.rt:264:17
-mul-k : tie.Need-mul-k
-mul-k c = search needs
-
--- src/lib.rt:264:17
-shared-slice-read-k : tie.Need-shared-slice-read-k
-shared-slice-read-k c = search needs
-
--- src/lib.rt:268:13
-row-requires : tie.Need-row-requires
-row-requires c κs = search row-in
-
--- src/lib.rt:265:9
 put-left-row-requires : tie.Need-put-left-row-requires
-put-left-row-requires c κs = (search left-meets, search meets-row)
+put-left-row-requires c κs =
+    let side-last = c .before in
+    let left = side-last .before .before .before .before .before in
+    let pre = left .before .before .before .before .before .before .before .pre in
+    let row = side-last .before .before .row .ensures in
+    (row-wide _ _ _ _ (row-in _ _ _ _ (pre .1 .0) (left .if1 .taken)) row ∙ sym (pre .0), (key-ends _ _ _ (pre .1 .1 .1 .0) _ (left .if1 .taken) _ _ _ (pre .1 .1 .0) _ _ (side-last .before .side-first .ensures) (side-last .side-last .ensures), meets-row _ _ _ _ _ _ _ _ (pre .1 .1 .0) (pre .1 .0) (left .if1 .taken) row))
 
--- src/lib.rt:274:9
-same-length : tie.Need-same-length
-same-length c = search needs
-
--- src/lib.rt:274:9
 returns : tie.Need-returns
-returns c = search left-is
-
--- src/lib.rt:276:28
-row-requires-2 : tie.Need-row-requires-2
-row-requires-2 c κs = search right-start
-
--- src/lib.rt:276:5
-copy-row-requires : tie.Need-copy-row-requires
-copy-row-requires c κs = search right-meets
-
--- src/lib.rt:245:1
-same-length-2 : tie.Need-same-length-2
-same-length-2 c = search needs
-
--- src/lib.rt:245:1
-returns-2 : tie.Need-returns-2
-returns-2 c = search right-is
+returns c =
+    let left = c .before .before .before .before .before .before .before .before .before in
+    left-is _ _ _ _ _ _ _ (left .before .before .before .before .before .before .before .pre .1 .0) _ (left .if1 .taken) _ (c .before .before .before .before .before .before .row .ensures) _ (c .before .before .put-left-row .ensures)
 
 pub put-row-spec : {M : Type 1} → statement M
 put-row-spec =
     tie.close
     (tie.spec
-    mul-k
-    shared-slice-read-k
-    row-requires
+    (λ c. search needs)
+    (λ c. search needs)
+    (λ c. search needs)
+    (λ c. search ends-room)
+    (λ c κs. search row-in)
+    (λ c κs. search needs)
+    (λ c κs. search needs)
     put-left-row-requires
-    same-length
+    (λ c. search needs)
     returns
-    row-requires-2
-    copy-row-requires
-    same-length-2
-    returns-2)
+    (λ c κs. search right-start)
+    (λ c κs. search right-meets)
+    (λ c. search needs)
+    (λ c. search right-is))

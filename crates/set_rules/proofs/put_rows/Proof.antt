@@ -13,10 +13,10 @@ use Rattle.set_rules.proofs.put_rows.Lts as lts
 use Rattle.set_rules.proofs.put_row.Reads as put-row-reads
 
 abbrev Inv-loop : tie.InvT-loop
-Inv-loop rule falls p lkeys left keys rows list out₀ r₀ out r = RowsWriting (rowReadings (rowSides (meant rule) falls false p lkeys left keys rows)) p list out₀ r out
+Inv-loop rule falls p lkeys left keys rows ends list out₀ r₀ out r = RowsWriting (rowReadings (rowSides (meant rule) falls false p lkeys left keys rows)) p list out₀ r out
 
 abbrev μ-loop : tie.MeasureT-loop
-μ-loop rule falls p lkeys left keys rows list out₀ r₀ out r = length list - r
+μ-loop rule falls p lkeys left keys rows ends list out₀ r₀ out r = length list - r
 
 -- src/lib.rt:300:5
 loop-holds : tie.Need-loop-holds Inv-loop μ-loop
@@ -56,7 +56,7 @@ part-put-row-end c = search row-within
 
 -- src/lib.rt:303:9
 put-row-requires : tie.Need-put-row-requires Inv-loop μ-loop
-put-row-requires c κs = (search part-wide, (search needs, (search needs, search row-below)))
+put-row-requires c κs = (search part-wide, (search needs, (search needs, (search needs, search row-below))))
 
 -- src/lib.rt:314:9
 add-r : tie.Need-add-r Inv-loop μ-loop
