@@ -30,7 +30,7 @@ use Rattle.join_leads.specs.Checks.{TriedFrom, TriedAs, clashAs, ClashOf
 -- `try_lead`
 
 module _ (allowance p : ℕ) (rows : List ℕ) where
-  none-merge : (g : ℕ) (groups : List ℕ) (i : ℕ) (d : List ℕ) → ((j : ℕ) → j < length groups → eqb (getD groups j 0) g ≡ false) → mergeGroup allowance p rows g i groups d ≡ row d
+  pub none-merge : (g : ℕ) (groups : List ℕ) (i : ℕ) (d : List ℕ) → ((j : ℕ) → j < length groups → eqb (getD groups j 0) g ≡ false) → mergeGroup allowance p rows g i groups d ≡ row d
   unfolding mergeGroup
   none-merge g [] i d h = refl
   none-merge g (x ∷ groups) i d h = rw (h 0 (omega arith)) (none-merge g groups (suc i) d (λ j w. h (suc j) (omega (arith, w))))
@@ -65,11 +65,11 @@ module _ (allowance p : ℕ) (rows leads : List ℕ) where
   pub check-starts : Checking allowance p rows leads 0
   check-starts = record { within = omega arith; rest = λ side. refl }
 
-  clash-test : (side : Side) (o x : ℕ) (rest : List ℕ) → leadsClash allowance p rows side leads o (x ∷ rest) ≡ orElse (cond (eqb x o) (clash side o (mergeLead allowance p rows leads o)) none) (leadsClash allowance p rows side leads (suc o) rest)
+  pub clash-test : (side : Side) (o x : ℕ) (rest : List ℕ) → leadsClash allowance p rows side leads o (x ∷ rest) ≡ orElse (cond (eqb x o) (clash side o (mergeLead allowance p rows leads o)) none) (leadsClash allowance p rows side leads (suc o) rest)
   unfolding leadsClash
   clash-test side o x rest = refl
 
-  clash-none : (side : Side) (o : ℕ) → leadsClash allowance p rows side leads o [] ≡ none
+  pub clash-none : (side : Side) (o : ℕ) → leadsClash allowance p rows side leads o [] ≡ none
   unfolding leadsClash
   clash-none side o = refl
 
@@ -109,6 +109,14 @@ note-past list n x h = sym (set-out list n x h)
 
 -- `list_leads`
 
+pub rows-none : (m o : ℕ) → leadRows m o [] ≡ []
+unfolding leadRows
+rows-none m o = refl
+
+pub rows-test : (m o x : ℕ) (rest : List ℕ) → leadRows m o (x ∷ rest) ≡ cond (eqb x o) (rowCode m o ∷ leadRows m (suc o) rest) (leadRows m (suc o) rest)
+unfolding leadRows
+rows-test m o x rest = refl
+
 -- the rows of the leaders before o are noted
 pub record Listing (m n : ℕ) (leads before : List ℕ) (list : List ℕ) (r o : ℕ) : Type 0 where
   pub within : o ≤ length leads
@@ -121,14 +129,6 @@ pub record Listing (m n : ℕ) (leads before : List ℕ) (list : List ℕ) (r o 
 module _ (m n : ℕ) (leads before : List ℕ) where
   pub listing-starts : CodesFit m n leads → Listing m n leads before before n 0
   listing-starts f = record { within = omega arith; fit = f; small = omega arith; long = refl; stored = refl; count = refl }
-
-  rows-none : (o : ℕ) → leadRows m o [] ≡ []
-  unfolding leadRows
-  rows-none o = refl
-
-  rows-test : (o x : ℕ) (rest : List ℕ) → leadRows m o (x ∷ rest) ≡ cond (eqb x o) (rowCode m o ∷ leadRows m (suc o) rest) (leadRows m (suc o) rest)
-  unfolding leadRows
-  rows-test o x rest = refl
 
   module _ (list : List ℕ) (r o : ℕ) (s : Listing m n leads before list r o) where
     pub code-product : Fits w64 (m * 512)
@@ -145,7 +145,7 @@ module _ (m n : ℕ) (leads before : List ℕ) where
       count-fits = omega (arith, s .small, s .fit .place, s .fit .before, s .fit .few)
 
       next : leadRows m o (drop o leads) ≡ cond (eqb (getD leads o 0) o) (rowCode m o ∷ leadRows m (o + 1) (drop (o + 1) leads)) (leadRows m (o + 1) (drop (o + 1) leads))
-      next = rw (drop-cons leads o 0 h, add-one o) (rows-test o (getD leads o 0) (drop (suc o) leads))
+      next = rw (drop-cons leads o 0 h, add-one o) (rows-test m o (getD leads o 0) (drop (suc o) leads))
 
       pub listing-past : (getD leads o 0 ≡ o → ⊥) → Listing m n leads before list r (o + 1)
       listing-past f =
@@ -174,7 +174,7 @@ module _ (m n : ℕ) (leads before : List ℕ) where
 
     pub listing-ends : length leads ≤ o → Noted (leadRows m 0 leads) before n list r
     listing-ends h =
-        let e : leadRows m o (drop o leads) ≡ [] = rw (drop-of-length-le leads h) (rows-none o) in
+        let e : leadRows m o (drop o leads) ≡ [] = rw (drop-of-length-le leads h) (rows-none m o) in
         record { stored = ap (sets list r) (sym e) ∙ s .stored; count = omega (arith, s .count, ap length e) }
 
 -- a work row of p readings is the front of a longer one

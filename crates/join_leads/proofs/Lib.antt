@@ -1,3 +1,4 @@
 pub mod Alike
 pub mod Marking
 pub mod Checking
+pub mod Sole

@@ -38,6 +38,12 @@ pub record CodesFit (m n : ℕ) (leads : List ℕ) : Type 0 where
   pub before : n ≤ m * 512
   pub few : length leads ≤ maxSeries
 
+-- and the code of a one-side place with it
+pub record RowFits (m o n : ℕ) : Type 0 where
+  pub many : m < maxSeries
+  pub one : o < maxSeries
+  pub before : n ≤ m * 512
+
 -- rows stored in a list behind the n before, as far as it goes, and the count r of all
 pub record Noted (rows before : List ℕ) (n : ℕ) (after : List ℕ) (r : ℕ) : Type 0 where
   pub stored : after ≡ sets before n rows

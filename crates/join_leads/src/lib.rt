@@ -1,6 +1,7 @@
 // The one-side series that a many-side series of a join meets, by their leaders: the earliest with the same edited tags.
 use merging::Merges;
 ghost use mathlib.Core.Path.{_≡_};
+ghost use mathlib.Core.List.{[], _∷_};
 ghost use Prim.Native.Nat.{_+_, _*_, _≤_, _<_};
 ghost use lib.ListN.{length, set};
 ghost use Rattle.model.specs.Labels.{WellFormed};
@@ -8,10 +9,10 @@ ghost use Rattle.labels.specs.Names.{namesOf};
 ghost use Rattle.metric_name.specs.Lenient.{labelsOf};
 ghost use Rattle.timeseries.specs.Sides.{Positions};
 ghost use Rattle.plan.specs.Merging.{mergeLead};
-ghost use Rattle.plan.specs.Joins.{leadRows};
+ghost use Rattle.plan.specs.Joins.{rowCode, leadRows};
 ghost use Rattle.join_leads.specs.Lent.{Lent};
 ghost use Rattle.join_leads.specs.Marks.{Marked, LeadFound, editedHash};
-ghost use Rattle.join_leads.specs.Checks.{TriedAs, ClashOf, CodesFit, Noted};
+ghost use Rattle.join_leads.specs.Checks.{TriedAs, ClashOf, CodesFit, RowFits, Noted};
 
 // The first leader before a place that gives the same edited tags, or the place. The hashes only spare comparisons.
 fn find_lead<'a>(
@@ -135,6 +136,15 @@ fn note(list: &mut [usize], n: usize, x: usize)
     if n < list.len() {
         list[n] = x;
     }
+}
+
+// Notes the answer row of the many-side place m and the one-side place o behind the n before, and gives their number.
+pub fn list_lead(m: usize, o: usize, n: usize, list: &mut [usize]) -> usize
+    requires { ⌜ RowFits m o n ⌝ }
+    ensures { λ r. ⌜ Noted (rowCode m o ∷ []) (now (list .entry)) n (now (list .exit)) r ⌝ }
+{
+    note(list, n, m * 512 + o);
+    n + 1
 }
 
 // Notes the answer rows of the many-side place m behind the n before, and gives their number.

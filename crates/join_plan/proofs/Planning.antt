@@ -18,19 +18,22 @@ use Rattle.model.specs.Row.{twoOverlaps}
 use Rattle.semantics.specs.Events.{Duplicate}
 use Rattle.semantics.specs.Rules.{other}
 use Rattle.semantics.specs.Binop.{allowedOverlaps}
-use Rattle.plan.specs.Keys.{dropped}
+use Rattle.plan.specs.Keys.{dropped, firstOf}
 use Rattle.plan.specs.Pairs.{noLabels}
 use Rattle.plan.specs.Conclude.{orElse}
-use Rattle.plan.specs.Joins.{JoinSides, leadsOf, leadsClash, leadRows, joinClash, joinRowsFrom}
+use Rattle.plan.specs.Joins.{JoinSides, leadsOf, leadsClash, leadRows, rowCode, joinClash, joinRowsFrom}
+use Rattle.merging.specs.Laws.{first-is, first-most}
 use Rattle.metric_name.specs.Lenient.{labelsOf}
 use Rattle.timeseries.specs.Sides.{recordAt, labelsIn}
 use Rattle.join_leads.specs.declared.Checked.{Checked}
 use Rattle.join_leads.specs.declared.Checked.the-variants as C
 use Rattle.join_leads.specs.Lent.{Lent, ListedBy}
 use Rattle.join_leads.specs.Marks.{Marked}
-use Rattle.join_leads.specs.Checks.{ClashOf, CodesFit, Noted}
+use Rattle.join_leads.specs.Checks.{ClashOf, CodesFit, RowFits, Noted}
 use Rattle.join_leads.proofs.Alike.{leads-among-long}
 use Rattle.join_leads.proofs.Marking.{labels-long, labels-here, someone, marked-long}
+use Rattle.join_leads.proofs.Sole.{AtMostOne, first-is-last, nowhere, sole-clash, nowhere-rows, sole-rows}
+use Rattle.key_ends.specs.Codes.{SideEnds, EndsOf, sideFirst, sideLast, side-first, side-last, ends-at}
 use Rattle.join_plan.specs.declared.Plan.{Plan}
 use Rattle.join_plan.specs.declared.Plan.the-variants.{Rows, Failed}
 use Rattle.join_rows.specs.Sides.{OneLent, sidesOf}
@@ -81,6 +84,50 @@ module _ (p : ℕ) (array at keys rows : List ℕ) (one : OneLent p array at key
 module _ (join skip : Names) (rec : List ℕ) (k : ℕ) (array at keys leads : List ℕ) (marked : Marked join skip rec k array at keys leads) where
   pub many-planned : (m n p : ℕ) (rows before after : List ℕ) (r : Plan) → LeadsPlanned m n p rows leads before after r → ManyPlanned join skip rec m k n p array at keys rows before after r
   many-planned m n p rows before after r h = record { each = λ q g. rw (← marked .each q g) h }
+
+-- `plan_place`
+
+module _ (keys : List ℕ) (k c : ℕ) (ends : EndsOf keys k c) (first : ℕ) (hf : first ≡ sideFirst c) where
+  is-first : first ≡ firstOf keys k
+  is-first = hf ∙ side-first keys k c ends
+
+  module _ (f : first ≡ length keys → ⊥) where
+    first-inside : first < length keys
+    first-inside = omega (arith, f, is-first, first-most k keys)
+
+    pub row-fits : (m n : ℕ) → CodesFit m n keys → RowFits m first n
+    row-fits m n fit = record { many = fit .place; one = omega (arith, first-inside, fit .few); before = fit .before }
+
+module _ (p : ℕ) (array at keys rows : List ℕ) (one : OneLent p array at keys rows) (join skip : Names) (rec : List ℕ) (m k n : ℕ) where
+  -- where the key has at most one series on the one side, its rows are those noted
+  sole-planned : AtMostOne keys k → (before after : List ℕ) (c : ℕ) → ((q : Query) → Noted (leadRows m 0 (leadsOf q (labelsOf rec) k keys (labelsIn array at))) before n after c)
+      → ManyPlanned join skip rec m k n p array at keys rows before after (Rows c)
+  sole-planned sole before after c h = record {
+    each = λ q g. record {
+      clash = λ side. sole-clash q (labelsOf rec) k keys (labelsIn array at) (labels-long array at keys (one .lent)) (one .lent .few) sole twoOverlaps p rows side;
+      notes = record {
+        noted = λ d f. (let z : c ≡ d = cc in rw (← z) (h q));
+        stopped = λ d i f. absurd (let z : _≡_ {A = ℕ} 0 1 = cc in omega arith);
+        long = ap length (h q .stored) ∙ length-sets before n (leadRows m 0 (leadsOf q (labelsOf rec) k keys (labelsIn array at)));
+      };
+    };
+  }
+
+  module _ (c : ℕ) (ends : EndsOf keys k c) (first : ℕ) (hf : first ≡ sideFirst c) where
+    pub none-planned : (before : List ℕ) → first ≡ length keys → ManyPlanned join skip rec m k n p array at keys rows before before (Rows n)
+    none-planned before e =
+        let absent : length keys ≤ firstOf keys k = omega (arith, is-first keys k c ends first hf, e) in
+        sole-planned (nowhere keys k absent) before before n
+        (λ q. rw (nowhere-rows q (labelsOf rec) k keys (labelsIn array at) (labels-long array at keys (one .lent)) (one .lent .few) (nowhere keys k absent) m absent) (record { stored = refl; count = omega arith }))
+
+    pub one-planned : (first ≡ length keys → ⊥) → (last : ℕ) → last ≡ sideLast c → first ≡ last → (before after : List ℕ) (r : ℕ) → Noted (rowCode m first ∷ []) before n after r → ManyPlanned join skip rec m k n p array at keys rows before after (Rows r)
+    one-planned f last hl e before after r noted =
+        let is = is-first keys k c ends first hf in
+        let inside = first-inside keys k c ends first hf f in
+        let sole : AtMostOne keys k = first-is-last keys k (sym is ∙ e ∙ hl ∙ side-last keys k c ends) in
+        let key : getD keys first 0 ≡ k = rw is (first-is k keys (rw (← is) inside)) in
+        sole-planned sole before after r
+        (λ q. rw (sole-rows q (labelsOf rec) k keys (labelsIn array at) (labels-long array at keys (one .lent)) (one .lent .few) sole m first is key inside) noted)
 
 -- the front of an array as a row of its own
 pub front-long : (p : ℕ) (l : List ℕ) → p ≤ length l → p ≡ length (take p l)
@@ -206,6 +253,13 @@ module _ (join skip : Names) (p : ℕ) (ma mt mk a t k r before : List ℕ) wher
     module _ (h : i < length mk) where
       pub place-fits : CodesFit i n k
       place-fits = record { place = omega (arith, h, many-lent .few); before = w .small; few = one .lent .few }
+
+      module _ (ends : List ℕ) (e : SideEnds k mk ends) where
+        pub ends-inside : i < length ends
+        ends-inside = omega (arith, h, e .room)
+
+        pub ends-here : EndsOf k (getD mk i 0) (getD ends i 0)
+        ends-here = ends-at k mk ends (one .lent .few) e i h
 
       pub record-inside : i + 1 < length mt
       record-inside = omega (arith, many-lent .count)

@@ -6,6 +6,7 @@ ghost use lib.ListN.{length};
 ghost use Rattle.model.specs.Labels.{WellFormed};
 ghost use Rattle.labels.specs.Names.{namesOf};
 ghost use Rattle.metric_name.specs.Lenient.{labelsOf};
+ghost use Rattle.key_ends.specs.Codes.{SideEnds, EndsOf};
 ghost use Rattle.join_leads.specs.Lent.{Lent};
 ghost use Rattle.join_leads.specs.Marks.{Marked};
 ghost use Rattle.join_leads.specs.Checks.{CodesFit};
@@ -103,7 +104,39 @@ fn plan_many<'a>(
     )
 }
 
-// Every many-side series that takes part, up to the first merge that fails.
+// The many-side record at the place m, of the key k, whose first and last place on the one side are the code c. Where the key has no series there, or one, no leader is marked.
+fn plan_place<'a>(
+    rec: &'a [u8],
+    m: usize,
+    k: usize,
+    c: usize,
+    n: usize,
+    p: usize,
+    array: &'a [u8],
+    at: &[usize],
+    keys: &[usize],
+    rows: &[u64],
+    join: &[u8],
+    skip: &[u8],
+    list: &mut [usize],
+) -> Plan
+    requires formed { ⌜ WellFormed (labelsOf (now rec)) ⌝ }
+    requires one { ⌜ OneLent p (now array) (now at) (now keys) (now rows) ⌝ }
+    requires fit { ⌜ CodesFit m n (now keys) ⌝ }
+    requires ends { ⌜ EndsOf (now keys) k c ⌝ }
+    ensures { λ r. ⌜ ManyPlanned (namesOf (now (join .entry))) (namesOf (now (skip .entry))) (now (rec .entry)) m k n p (now (array .entry)) (now (at .entry)) (now (keys .entry)) (now (rows .entry)) (now (list .entry)) (now (list .exit)) r ⌝ }
+{
+    let first = key_ends::side_first(c);
+    if first == keys.len() {
+        return Plan::Rows(n);
+    }
+    if first == key_ends::side_last(c) {
+        return Plan::Rows(join_leads::list_lead(m, first, n, list));
+    }
+    plan_many(rec, m, k, n, p, array, at, keys, rows, join, skip, list)
+}
+
+// Every many-side series that takes part, up to the first merge that fails. `ends` has the first and the last place of each one's key on the one side.
 pub fn plan_join<'a>(
     p: usize,
     many_array: &'a [u8],
@@ -115,10 +148,12 @@ pub fn plan_join<'a>(
     rows: &[u64],
     join: &[u8],
     skip: &[u8],
+    ends: &[usize],
     list: &mut [usize],
 ) -> Plan
     requires many { ⌜ Lent (now «many_array») (now «many_at») (now «many_keys») ⌝ }
     requires one { ⌜ OneLent p (now array) (now at) (now keys) (now rows) ⌝ }
+    requires ends { ⌜ SideEnds (now keys) (now «many_keys») (now ends) ⌝ }
     ensures { λ r. ⌜ Planned (namesOf (now (join .entry))) (namesOf (now (skip .entry))) p (now («many_array» .entry)) (now («many_at» .entry)) (now («many_keys» .entry)) (now (array .entry)) (now (at .entry)) (now (keys .entry)) (now (rows .entry)) (now (list .entry)) (now (list .exit)) r ⌝ }
 {
     let mut n: usize = 0;
@@ -129,7 +164,8 @@ pub fn plan_join<'a>(
         i += 1;
         if k != key_places::DROPPED {
             let rec = timeseries::record(many_array, many_at, m);
-            match plan_many(rec, m, k, n, p, array, at, keys, rows, join, skip, list) {
+            let c = ends[m];
+            match plan_place(rec, m, k, c, n, p, array, at, keys, rows, join, skip, list) {
                 Plan::Rows(count) => n = count,
                 Plan::Failed { kept, failed } => return Plan::Failed { kept, failed },
             }

@@ -40,7 +40,7 @@ use Rattle.joins.specs.Joined.{WorkOf, pointsOf, AnswerRoom, AnswerPut, 
 lent-records : (array at keys : List ℕ) → Lent array at keys → Records array at
 lent-records array at keys lent = record { positions = lent .positions; short = lent .short; formed = λ i h. lent .formed i (omega (arith, h, lent .count)) }
 
-module _ (join skip : Names) (p : ℕ) (ma mt mk mr a t k r list : List ℕ) (s : JoinAsked join skip p ma mt mk mr a t k r list) where
+module _ (join skip : Names) (p : ℕ) (ma mt mk mr a t k r ends list : List ℕ) (s : JoinAsked join skip p ma mt mk mr a t k r ends list) where
   pub asked-records : RecordsIn ma mt a t list
   asked-records = record {
     few = s .asked .few;
@@ -104,7 +104,7 @@ room-made f list t k p n m room asked h = record {
 
 -- what they come to
 
-module _ (w : Work) (join skip : Names) (p : ℕ) (ma mt mk mr a t k r list labels₀ out₀ : List ℕ) (s : JoinAsked join skip p ma mt mk mr a t k r list)
+module _ (w : Work) (join skip : Names) (p : ℕ) (ma mt mk mr a t k r ends list labels₀ out₀ : List ℕ) (s : JoinAsked join skip p ma mt mk mr a t k r ends list)
     (tally : Tally) (tallied : TallyOf (rowLabels join skip (w .naming) ma mt a t) list tally) (room : Room) (asked : room ≡ roomOf (length list) p tally (length labels₀) (length out₀)) where
   -- under a query, by the codes' series
   by-codes : (q : Query) → WorkOf q join skip w → (labels out : List ℕ) (o : Outcome)

@@ -20,6 +20,7 @@ use Rattle.answers.specs.declared.Outcome.{Outcome}
 use Rattle.answers.specs.declared.Outcome.the-variants as Out
 use Rattle.answers.specs.Outcomes.{Ran}
 use Rattle.answers.proofs.Concluding.{ran-left-twice, ran-right-twice, ran-without-clash, ran-too-many}
+use Rattle.key_ends.specs.Codes.{SideEnds}
 use Rattle.join_leads.specs.Lent.{ListedBy}
 use Rattle.join_leads.specs.Checks.{Noted}
 use Rattle.join_leads.proofs.Marking.{someone}
@@ -46,7 +47,7 @@ twice-left l k i h = rw h
 pub front-long : (n : ℕ) (l : List ℕ) → n ≤ length l → n ≡ length (take n l)
 front-long n l h = sym (length-take-le n l h)
 
-module _ (join skip : Names) (p : ℕ) (ma mt mk mr a t k r list : List ℕ) (n : ℕ) (s : RowsPlanned join skip p ma mt mk mr a t k r list n) where
+module _ (join skip : Names) (p : ℕ) (ma mt mk mr a t k r ends list : List ℕ) (n : ℕ) (s : RowsPlanned join skip p ma mt mk mr a t k r ends list n) where
   pub list-holds : n ≤ maxSeries → n ≤ length list
   list-holds h = omega (arith, s .full)
 
@@ -63,11 +64,11 @@ module _ (join skip : Names) (p : ℕ) (ma mt mk mr a t k r list : List ℕ) (n 
     codes-asked = record {
       few = omega (arith, length-take-le n list (list-holds h));
       codes = λ i l. sound (someone join skip .q) (someone join skip .lists) i l .places;
-      merge = λ q g i l. sound q g i l .merge;
+      merge = λ i l. record { each = λ q g. sound q g i l .merge };
     }
 
-    pub join-asked : JoinAsked join skip p ma mt mk mr a t k r (take n list)
-    join-asked = record { lent = s .lent; asked = codes-asked }
+    pub join-asked : JoinAsked join skip p ma mt mk mr a t k r ends (take n list)
+    join-asked = record { lent = s .lent; known = s .known; asked = codes-asked }
 
   module _ (w : Work) (labels₀ out₀ : List ℕ) where
     pub joined-many : maxSeries < n → Joined w join skip p ma mt mk mr a t k r labels₀ out₀ labels₀ out₀ Out.TooLarge
@@ -98,9 +99,10 @@ listed-rows rows before after n w e h =
     rw (w .stored, sets-eq rows before 0 few) (take-at rows (drop (0 + length rows) before) n long)
 
 module _ (join skip : Names) (p : ℕ) (ma mt mk mr a t k r before after : List ℕ) (lent : JoinLent p ma mt mk mr a t k r) (v : Plan) (planned : Planned join skip p ma mt mk a t k r before after v) where
-  pub rows-planned : (n : ℕ) → v ≡ Rows n → length before ≡ maxSeries → RowsPlanned join skip p ma mt mk mr a t k r after n
-  rows-planned n e full = record {
+  pub rows-planned : (n : ℕ) → v ≡ Rows n → length before ≡ maxSeries → (ends : List ℕ) → SideEnds k mk ends → RowsPlanned join skip p ma mt mk mr a t k r ends after n
+  rows-planned n e full ends known = record {
     lent = lent;
+    known = known;
     full = planned .each (someone join skip .q) (someone join skip .lists) left mr .notes .long ∙ full;
     each = λ q g many.
         let u = planned .each q g many mr in

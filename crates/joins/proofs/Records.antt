@@ -28,7 +28,7 @@ use Rattle.answers.specs.Tallies.{mostBytes, noTally, withSize, recordsOf, some
 use Rattle.answers.proofs.Tallies.{Tallying, tally-starts, tally-room, tally-turn, tally-ends}
 use Rattle.answers.proofs.Writing.{Writing, writing-starts, writing-room, writing-turn, writing-length, writing-ends, writing-count}
 use Rattle.join_rows.specs.Codes.{rowLabels}
-use Rattle.join_rows.proofs.Writing.{record-short, labels-are, few-edited, room-edited}
+use Rattle.join_rows.proofs.Codes.{record-short, labels-are, few-edited, room-edited}
 use Rattle.joins.specs.Records.{CodeRecords, RecordsIn, SizedEdited, LabelRoom, LabelsPut}
 
 -- the name of an edited record is a name

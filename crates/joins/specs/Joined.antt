@@ -19,6 +19,7 @@ use Rattle.answers.specs.declared.Outcome.{Outcome}
 use Rattle.answers.specs.declared.Outcome.the-variants.{Answer, LeftTwice, RightTwice}
 use Rattle.answers.specs.Outcomes.{startingWith, Ran}
 use Rattle.answers.specs.Tallies.{recordsOf, someWide}
+use Rattle.key_ends.specs.Codes.{SideEnds}
 use Rattle.join_leads.specs.Lent.{ListedBy}
 use Rattle.join_rows.specs.declared.Work.{Work}
 use Rattle.join_rows.specs.Sides.{JoinLent, sidesOf}
@@ -58,9 +59,10 @@ pub record RowsPlannedBy (q : Query) (many : Side) (p : ℕ) (manyArray manyAt m
   pub count : n ≡ length (joinRowsFrom q (sidesOf p manyArray manyAt manyKeys manyRows array at keys rows) 0 manyKeys (labelsIn manyArray manyAt))
   pub listed : n ≤ maxSeries → take n list ≡ joinRowsFrom q (sidesOf p manyArray manyAt manyKeys manyRows array at keys rows) 0 manyKeys (labelsIn manyArray manyAt)
 
--- under each query with these lists
-pub record RowsPlanned (join skip : Names) (p : ℕ) (manyArray manyAt manyKeys manyRows array at keys rows list : List ℕ) (n : ℕ) : Type 0 where
+-- under each query with these lists, with the one-side ends of the many side's keys
+pub record RowsPlanned (join skip : Names) (p : ℕ) (manyArray manyAt manyKeys manyRows array at keys rows ends list : List ℕ) (n : ℕ) : Type 0 where
   pub lent : JoinLent p manyArray manyAt manyKeys manyRows array at keys rows
+  pub known : SideEnds keys manyKeys ends
   pub full : length list ≡ maxSeries
   pub each : (q : Query) → ListedBy q join skip → (many : Side) → RowsPlannedBy q many p manyArray manyAt manyKeys manyRows array at keys rows list n
 

@@ -1,5 +1,5 @@
 -- The readings of row codes: by the leaders of their many-side place, and what writing them leaves. Assumes nothing.
-use Prim.Native.Nat.{ℕ, zero, suc, _/_, _%_, _≤_, _<_}
+use Prim.Native.Nat.{ℕ, _/_, _%_, _≤_, _<_}
 use mathlib.Core.Path.{_≡_}
 use mathlib.Core.List.{List}
 use lib.ListN.{length, getD}
@@ -13,12 +13,13 @@ use Rattle.plan.specs.Joins.{leadsOf}
 use Rattle.metric_name.specs.Lenient.{labelsOf}
 use Rattle.timeseries.specs.Sides.{recordAt, labelsIn}
 use Rattle.answers.specs.Outcomes.{startingWith}
+use Rattle.key_ends.specs.Codes.{SideEnds}
 use Rattle.join_leads.specs.Lent.{ListedBy}
 use Rattle.join_leads.specs.Marks.{Marked}
 use Rattle.join_rows.specs.declared.Work.{Work}
 use Rattle.join_rows.specs.Sides.{JoinLent}
 use Rattle.join_rows.specs.Codes.{CodeIn}
-use Rattle.join_rows.specs.Written.{worked, LeadRow}
+use Rattle.join_rows.specs.Written.{worked}
 
 -- the leaders of the many-side place m
 abbrev pub leadsAt : Query → List ℕ → List ℕ → List ℕ → List ℕ → List ℕ → List ℕ → ℕ → List ℕ
@@ -38,25 +39,25 @@ pub record LeadsFor (join skip : Names) (m : ℕ) (manyArray manyAt manyKeys arr
   pub long : length leads ≡ length keys
   pub marked : m < length manyKeys → Marked join skip (recordAt manyArray manyAt m) (getD manyKeys m 0) array at keys leads
 
--- the many-side place of the last of n codes; 512 is none
-unfoldable pub lastPlace : ℕ → List ℕ → ℕ
-lastPlace zero list = 512
-lastPlace (suc n) list = getD list n 0 / 512
-
--- out is the row of the code x, where the merges behind its leader succeed
+-- out is the row of the code x
 pub record CodeRow (w : Work) (join skip : Names) (p : ℕ) (manyArray manyAt manyKeys manyRows array at keys rows : List ℕ) (x : ℕ) (out : List ℕ) : Type 0 where
-  pub each : (q : Query) → ListedBy q join skip → LeadRow w (rowAt p manyRows (x / 512)) rows (leadsAt q manyArray manyAt manyKeys array at keys (x / 512)) (x % 512) p out
+  pub each : (q : Query) → ListedBy q join skip → out ≡ codeReadings w q p manyArray manyAt manyKeys manyRows array at keys rows x
+
+-- the merges behind the leader of the code x succeed
+pub record CodeMerges (join skip : Names) (p : ℕ) (manyArray manyAt manyKeys array at keys rows : List ℕ) (x : ℕ) : Type 0 where
+  pub each : (q : Query) → ListedBy q join skip
+      → mergesAt q p manyArray manyAt manyKeys array at keys rows x ≡ row (rowOf (mergesAt q p manyArray manyAt manyKeys array at keys rows x))
 
 -- at most 512 codes, whose places stand on the two sides and whose merges succeed
 pub record CodesAsked (join skip : Names) (p : ℕ) (manyArray manyAt manyKeys array at keys rows list : List ℕ) : Type 0 where
   pub few : length list ≤ maxSeries
   pub codes : (i : ℕ) → i < length list → CodeIn manyKeys keys (getD list i 0)
-  pub merge : (q : Query) → ListedBy q join skip → (i : ℕ) → i < length list
-      → mergesAt q p manyArray manyAt manyKeys array at keys rows (getD list i 0) ≡ row (rowOf (mergesAt q p manyArray manyAt manyKeys array at keys rows (getD list i 0)))
+  pub merge : (i : ℕ) → i < length list → CodeMerges join skip p manyArray manyAt manyKeys array at keys rows (getD list i 0)
 
--- with the sides as they are lent
-pub record JoinAsked (join skip : Names) (p : ℕ) (manyArray manyAt manyKeys manyRows array at keys rows list : List ℕ) : Type 0 where
+-- with the sides as they are lent, and the one-side ends of the many side's keys
+pub record JoinAsked (join skip : Names) (p : ℕ) (manyArray manyAt manyKeys manyRows array at keys rows ends list : List ℕ) : Type 0 where
   pub lent : JoinLent p manyArray manyAt manyKeys manyRows array at keys rows
+  pub known : SideEnds keys manyKeys ends
   pub asked : CodesAsked join skip p manyArray manyAt manyKeys array at keys rows list
 
 -- the readings of codes at the start of an output part

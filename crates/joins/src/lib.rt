@@ -14,11 +14,12 @@ ghost use Rattle.labels.specs.Names.{namesOf};
 ghost use Rattle.model.specs.Record.{encode};
 ghost use Rattle.label_edits.specs.Written.{Put};
 ghost use Rattle.answers.specs.Tallies.{TallyOf, recordsOf, someWide};
+ghost use Rattle.key_ends.specs.Codes.{SideEnds};
 ghost use Rattle.join_leads.specs.Lent.{Lent};
 ghost use Rattle.join_rows.specs.Sides.{JoinLent};
 ghost use Rattle.join_rows.specs.Codes.{CodeIn, rowLabels};
 ghost use Rattle.joins.specs.Records.{CodeRecords, RecordsIn, SizedEdited, LabelRoom, LabelsPut};
-ghost use Rattle.joins.specs.Readings.{lastPlace, LeadsFor, CodeRow, JoinAsked, RowsPut};
+ghost use Rattle.joins.specs.Readings.{LeadsFor, CodeRow, CodeMerges, JoinAsked, RowsPut};
 ghost use Rattle.joins.specs.Joined.{AnswerRoom, AnswerPut, Answered, RowsPlanned, oneTwice, Joined};
 
 // The size of a code's edited record.
@@ -154,7 +155,7 @@ fn leads_for<'a>(
 }
 
 // Writes the readings of the code x, by its leaders. They are marked anew only for another many-side place than before.
-fn put_code_row<'a>(
+fn put_led_row<'a>(
     w: Work,
     x: usize,
     marked: usize,
@@ -173,6 +174,7 @@ fn put_code_row<'a>(
 )
     requires lent { ⌜ JoinLent (length (now out)) (now «many_array») (now «many_at») (now «many_keys») (now «many_rows») (now array) (now at) (now keys) (now rows) ⌝ }
     requires code { ⌜ CodeIn (now «many_keys») (now keys) x ⌝ }
+    requires merges { ⌜ CodeMerges (namesOf (now join)) (namesOf (now skip)) (length (now out)) (now «many_array») (now «many_at») (now «many_keys») (now array) (now at) (now keys) (now rows) x ⌝ }
     requires before { ⌜ LeadsFor (namesOf (now join)) (namesOf (now skip)) marked (now «many_array») (now «many_at») (now «many_keys») (now array) (now at) (now keys) (now leads) ⌝ }
     ensures { λ _. ⌜ LeadsFor (namesOf (now (join .entry))) (namesOf (now (skip .entry))) (x / 512) (now («many_array» .entry)) (now («many_at» .entry)) (now («many_keys» .entry)) (now (array .entry)) (now (at .entry)) (now (keys .entry)) (now (leads .exit)) ⌝ }
     ensures { λ _. ⌜ CodeRow w (namesOf (now (join .entry))) (namesOf (now (skip .entry))) (length (now (out .entry))) (now («many_array» .entry)) (now («many_at» .entry)) (now («many_keys» .entry)) (now («many_rows» .entry)) (now (array .entry)) (now (at .entry)) (now (keys .entry)) (now (rows .entry)) x (now (out .exit)) ⌝ }
@@ -202,10 +204,63 @@ fn put_code_row<'a>(
     );
 }
 
+// Writes the readings of the code x, and gives the many-side place that the leads then stand for. Where the key has one series on the one side, no leader is looked at.
+fn put_code_row<'a>(
+    w: Work,
+    x: usize,
+    marked: usize,
+    many_array: &'a [u8],
+    many_at: &[usize],
+    many_keys: &[usize],
+    many_rows: &[u64],
+    array: &'a [u8],
+    at: &[usize],
+    keys: &[usize],
+    rows: &[u64],
+    join: &[u8],
+    skip: &[u8],
+    ends: &[usize],
+    leads: &mut [usize],
+    out: &mut [u64],
+) -> usize
+    requires lent { ⌜ JoinLent (length (now out)) (now «many_array») (now «many_at») (now «many_keys») (now «many_rows») (now array) (now at) (now keys) (now rows) ⌝ }
+    requires known { ⌜ SideEnds (now keys) (now «many_keys») (now ends) ⌝ }
+    requires code { ⌜ CodeIn (now «many_keys») (now keys) x ⌝ }
+    requires merges { ⌜ CodeMerges (namesOf (now join)) (namesOf (now skip)) (length (now out)) (now «many_array») (now «many_at») (now «many_keys») (now array) (now at) (now keys) (now rows) x ⌝ }
+    requires before { ⌜ LeadsFor (namesOf (now join)) (namesOf (now skip)) marked (now «many_array») (now «many_at») (now «many_keys») (now array) (now at) (now keys) (now leads) ⌝ }
+    ensures { λ r. ⌜ LeadsFor (namesOf (now (join .entry))) (namesOf (now (skip .entry))) r (now («many_array» .entry)) (now («many_at» .entry)) (now («many_keys» .entry)) (now (array .entry)) (now (at .entry)) (now (keys .entry)) (now (leads .exit)) ⌝ }
+    ensures { λ _. ⌜ CodeRow w (namesOf (now (join .entry))) (namesOf (now (skip .entry))) (length (now (out .entry))) (now («many_array» .entry)) (now («many_at» .entry)) (now («many_keys» .entry)) (now («many_rows» .entry)) (now (array .entry)) (now (at .entry)) (now (keys .entry)) (now (rows .entry)) x (now (out .exit)) ⌝ }
+{
+    let m = x / 512;
+    let c = ends[m];
+    if key_ends::side_first(c) == key_ends::side_last(c) {
+        join_rows::single_row(w, x, many_rows, rows, out);
+        return marked;
+    }
+    put_led_row(
+        w,
+        x,
+        marked,
+        many_array,
+        many_at,
+        many_keys,
+        many_rows,
+        array,
+        at,
+        keys,
+        rows,
+        join,
+        skip,
+        leads,
+        out,
+    );
+    m
+}
+
 // No many-side place: those are below it.
 const NO_PLACE: usize = 512;
 
-// Writes the readings of codes, each into its own part. Codes of one many-side place stand together, so its leaders are marked once.
+// Writes the readings of codes, each into its own part, and gives the many-side place that the leads then stand for. Codes of one place stand together, so its leaders are marked once.
 fn put_led_rows<'a>(
     w: Work,
     p: usize,
@@ -219,15 +274,16 @@ fn put_led_rows<'a>(
     rows: &[u64],
     join: &[u8],
     skip: &[u8],
+    ends: &[usize],
     list: &[usize],
     leads: &mut [usize],
     out: &mut [u64],
-)
-    requires asked { ⌜ JoinAsked (namesOf (now join)) (namesOf (now skip)) p (now «many_array») (now «many_at») (now «many_keys») (now «many_rows») (now array) (now at) (now keys) (now rows) (now list) ⌝ }
+) -> usize
+    requires asked { ⌜ JoinAsked (namesOf (now join)) (namesOf (now skip)) p (now «many_array») (now «many_at») (now «many_keys») (now «many_rows») (now array) (now at) (now keys) (now rows) (now ends) (now list) ⌝ }
     requires long { ⌜ length (now leads) ≡ length (now keys) ⌝ }
     requires room { ⌜ length (now list) * p ≤ length (now out) ⌝ }
     ensures { λ _. ⌜ RowsPut w (namesOf (now (join .entry))) (namesOf (now (skip .entry))) p (now («many_array» .entry)) (now («many_at» .entry)) (now («many_keys» .entry)) (now («many_rows» .entry)) (now (array .entry)) (now (at .entry)) (now (keys .entry)) (now (rows .entry)) (now (list .entry)) (now (out .entry)) (now (out .exit)) ⌝ }
-    ensures { λ _. ⌜ LeadsFor (namesOf (now (join .entry))) (namesOf (now (skip .entry))) (lastPlace (length (now (list .entry))) (now (list .entry))) (now («many_array» .entry)) (now («many_at» .entry)) (now («many_keys» .entry)) (now (array .entry)) (now (at .entry)) (now (keys .entry)) (now (leads .exit)) ⌝ }
+    ensures { λ r. ⌜ LeadsFor (namesOf (now (join .entry))) (namesOf (now (skip .entry))) r (now («many_array» .entry)) (now («many_at» .entry)) (now («many_keys» .entry)) (now (array .entry)) (now (at .entry)) (now (keys .entry)) (now (leads .exit)) ⌝ }
 {
     let mut marked = NO_PLACE;
     let mut i: usize = 0;
@@ -235,7 +291,7 @@ fn put_led_rows<'a>(
         let x = list[i];
         let from = i * p;
         let to = from + p;
-        put_code_row(
+        marked = put_code_row(
             w,
             x,
             marked,
@@ -249,12 +305,13 @@ fn put_led_rows<'a>(
             rows,
             join,
             skip,
+            ends,
             leads,
             &mut out[from..to],
         );
-        marked = x / 512;
         i += 1;
     }
+    marked
 }
 
 // With room for the leaders.
@@ -271,10 +328,11 @@ fn put_join_rows<'a>(
     rows: &[u64],
     join: &[u8],
     skip: &[u8],
+    ends: &[usize],
     list: &[usize],
     out: &mut [u64],
 )
-    requires asked { ⌜ JoinAsked (namesOf (now join)) (namesOf (now skip)) p (now «many_array») (now «many_at») (now «many_keys») (now «many_rows») (now array) (now at) (now keys) (now rows) (now list) ⌝ }
+    requires asked { ⌜ JoinAsked (namesOf (now join)) (namesOf (now skip)) p (now «many_array») (now «many_at») (now «many_keys») (now «many_rows») (now array) (now at) (now keys) (now rows) (now ends) (now list) ⌝ }
     requires room { ⌜ length (now list) * p ≤ length (now out) ⌝ }
     ensures { λ _. ⌜ RowsPut w (namesOf (now (join .entry))) (namesOf (now (skip .entry))) p (now («many_array» .entry)) (now («many_at» .entry)) (now («many_keys» .entry)) (now («many_rows» .entry)) (now (array .entry)) (now (at .entry)) (now (keys .entry)) (now (rows .entry)) (now (list .entry)) (now (out .entry)) (now (out .exit)) ⌝ }
 {
@@ -293,6 +351,7 @@ fn put_join_rows<'a>(
         rows,
         join,
         skip,
+        ends,
         list,
         &mut leads[..count],
         out,
@@ -313,11 +372,12 @@ fn put_answer<'a>(
     rows: &[u64],
     join: &[u8],
     skip: &[u8],
+    ends: &[usize],
     list: &[usize],
     labels: &mut [u8],
     out: &mut [u64],
 ) -> Outcome
-    requires asked { ⌜ JoinAsked (namesOf (now join)) (namesOf (now skip)) p (now «many_array») (now «many_at») (now «many_keys») (now «many_rows») (now array) (now at) (now keys) (now rows) (now list) ⌝ }
+    requires asked { ⌜ JoinAsked (namesOf (now join)) (namesOf (now skip)) p (now «many_array») (now «many_at») (now «many_keys») (now «many_rows») (now array) (now at) (now keys) (now rows) (now ends) (now list) ⌝ }
     requires room { ⌜ AnswerRoom (rowLabels (namesOf (now join)) (namesOf (now skip)) (w .naming) (now «many_array») (now «many_at») (now array) (now at)) (now list) p (length (now labels)) (length (now out)) ⌝ }
     ensures { λ r. ⌜ AnswerPut w (namesOf (now (join .entry))) (namesOf (now (skip .entry))) p (now («many_array» .entry)) (now («many_at» .entry)) (now («many_keys» .entry)) (now («many_rows» .entry)) (now (array .entry)) (now (at .entry)) (now (keys .entry)) (now (rows .entry)) (now (list .entry)) (now (labels .entry)) (now (out .entry)) (now (labels .exit)) (now (out .exit)) r ⌝ }
 {
@@ -347,6 +407,7 @@ fn put_answer<'a>(
         rows,
         join,
         skip,
+        ends,
         list,
         out,
     );
@@ -371,11 +432,12 @@ fn answer_join<'a>(
     rows: &[u64],
     join: &[u8],
     skip: &[u8],
+    ends: &[usize],
     list: &[usize],
     labels: &mut [u8],
     out: &mut [u64],
 ) -> Outcome
-    requires asked { ⌜ JoinAsked (namesOf (now join)) (namesOf (now skip)) p (now «many_array») (now «many_at») (now «many_keys») (now «many_rows») (now array) (now at) (now keys) (now rows) (now list) ⌝ }
+    requires asked { ⌜ JoinAsked (namesOf (now join)) (namesOf (now skip)) p (now «many_array») (now «many_at») (now «many_keys») (now «many_rows») (now array) (now at) (now keys) (now rows) (now ends) (now list) ⌝ }
     ensures { λ r. ⌜ Answered w (namesOf (now (join .entry))) (namesOf (now (skip .entry))) p (now («many_array» .entry)) (now («many_at» .entry)) (now («many_keys» .entry)) (now («many_rows» .entry)) (now (array .entry)) (now (at .entry)) (now (keys .entry)) (now (rows .entry)) (now (list .entry)) (now (labels .entry)) (now (out .entry)) (now (labels .exit)) (now (out .exit)) r ⌝ }
 {
     let naming = w.naming;
@@ -396,6 +458,7 @@ fn answer_join<'a>(
             rows,
             join,
             skip,
+            ends,
             list,
             labels,
             out,
@@ -428,12 +491,13 @@ fn answer_rows<'a>(
     rows: &[u64],
     join: &[u8],
     skip: &[u8],
+    ends: &[usize],
     list: &[usize],
     n: usize,
     labels: &mut [u8],
     out: &mut [u64],
 ) -> Outcome
-    requires planned { ⌜ RowsPlanned (namesOf (now join)) (namesOf (now skip)) p (now «many_array») (now «many_at») (now «many_keys») (now «many_rows») (now array) (now at) (now keys) (now rows) (now list) n ⌝ }
+    requires planned { ⌜ RowsPlanned (namesOf (now join)) (namesOf (now skip)) p (now «many_array») (now «many_at») (now «many_keys») (now «many_rows») (now array) (now at) (now keys) (now rows) (now ends) (now list) n ⌝ }
     ensures { λ r. ⌜ Joined w (namesOf (now (join .entry))) (namesOf (now (skip .entry))) p (now («many_array» .entry)) (now («many_at» .entry)) (now («many_keys» .entry)) (now («many_rows» .entry)) (now (array .entry)) (now (at .entry)) (now (keys .entry)) (now (rows .entry)) (now (labels .entry)) (now (out .entry)) (now (labels .exit)) (now (out .exit)) r ⌝ }
 {
     if 512 < n {
@@ -452,6 +516,7 @@ fn answer_rows<'a>(
         rows,
         join,
         skip,
+        ends,
         &list[..n],
         labels,
         out,
@@ -478,6 +543,8 @@ pub fn group_join<'a>(
     requires lent { ⌜ JoinLent p (now «many_array») (now «many_at») (now «many_keys») (now «many_rows») (now array) (now at) (now keys) (now rows) ⌝ }
     ensures { λ r. ⌜ Joined w (namesOf (now (join .entry))) (namesOf (now (skip .entry))) p (now («many_array» .entry)) (now («many_at» .entry)) (now («many_keys» .entry)) (now («many_rows» .entry)) (now (array .entry)) (now (at .entry)) (now (keys .entry)) (now (rows .entry)) (now (labels .entry)) (now (out .entry)) (now (labels .exit)) (now (out .exit)) r ⌝ }
 {
+    let mut ends = [0usize; 512];
+    key_ends::side_ends(keys, many_keys, &mut ends);
     let mut list = [0usize; 512];
     match join_plan::plan_join(
         p,
@@ -490,6 +557,7 @@ pub fn group_join<'a>(
         rows,
         join,
         skip,
+        &ends,
         &mut list,
     ) {
         Plan::Failed { kept, failed } => one_twice(w.left, kept, failed),
@@ -506,6 +574,7 @@ pub fn group_join<'a>(
             rows,
             join,
             skip,
+            &ends,
             &list,
             n,
             labels,

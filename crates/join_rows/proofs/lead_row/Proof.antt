@@ -1,7 +1,7 @@
 use borrow.Author.Needs.{needs}
 use mathlib.Core.Path.{sym}
 use native.Mathlib.Omega.{arith}
-use Rattle.join_rows.proofs.Rows.{row-inside, row-wide, alone-made, work-made, front-long}
+use Rattle.join_rows.proofs.Rows.{row-inside, row-wide, alone-made, front-long}
 use Rattle.join_rows.proofs.lead_row.Statement.{statement}
 use Rattle.join_rows.proofs.lead_row.Tie as tie
 use Rattle.join_rows.proofs.lead_row.Reads as reads
@@ -41,7 +41,7 @@ slice-aggregate-merged-row c = front-long _ _ (search needs)
 
 -- src/lib.rt:78:5
 merged-row-requires : tie.Need-merged-row-requires
-merged-row-requires c κs = (search needs, (search needs, (search needs, sym (front-long _ _ (search needs)))))
+merged-row-requires c κs = (search needs, (search needs, (search needs, (sym (front-long _ _ (search needs)), search needs))))
 
 -- src/lib.rt:65:1
 same-length-2 : tie.Need-same-length-2
@@ -49,7 +49,7 @@ same-length-2 c = search needs
 
 -- src/lib.rt:65:1
 returns-2 : tie.Need-returns-2
-returns-2 c = search work-made
+returns-2 c = search needs
 
 pub lead-row-spec : {M : Type 1} → statement M
 lead-row-spec =

@@ -1,5 +1,5 @@
 use borrow.Author.Needs.{needs}
-use Rattle.join_rows.proofs.Rows.{work-wide, merged-made, work-held}
+use Rattle.join_rows.proofs.Rows.{work-wide, merged-row, merged-made, work-held}
 use Rattle.join_rows.proofs.merged_row.Statement.{statement}
 use Rattle.join_rows.proofs.merged_row.Tie as tie
 use Rattle.join_rows.proofs.merged_row.Reads as reads
@@ -25,7 +25,7 @@ same-length-2 c = search needs
 
 -- src/lib.rt:45:1
 returns : tie.Need-returns
-returns c = search merged-made
+returns c = (search merged-row, search merged-made)
 
 pub merged-row-spec : {M : Type 1} → statement M
 merged-row-spec =

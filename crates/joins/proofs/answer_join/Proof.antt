@@ -44,8 +44,8 @@ returns-3 c =
     let fits = c .before .before .before .before .before .before .before .enum-told3 .given .1 in
     let asked = c .before .before .before .before .before .before .before .before .before .room-for .ensures in
     let tally = c .before .before .before .before .before .before .before .before .before .before .tally-join .ensures in
-    let pre = c .before .before .before .before .before .before .before .before .before .before .before .before .before .before .before .before .before .before .before .before .before .before .before .before .pre in
-    answered-put _ _ _ _ _ _ _ _ _ _ _ _ _ _ _ pre _ tally _ asked fits _ _ _ put
+    let pre = c .before .before .before .before .before .before .before .before .before .before .before .before .before .before .before .before .before .before .before .before .before .before .before .before .before .pre in
+    answered-put _ _ _ _ _ _ _ _ _ _ _ _ _ _ _ _ pre _ tally _ asked fits _ _ _ put
 
 pub answer-join-spec : {M : Type 1} → statement M
 answer-join-spec =

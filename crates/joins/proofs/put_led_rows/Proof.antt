@@ -3,16 +3,16 @@ use borrow.Author.Needs.{needs}
 use Prim.Native.Nat.{_-_}
 use lib.ListN.{length}
 use Rattle.labels.specs.Names.{namesOf}
-use Rattle.joins.proofs.Rows.{RowsDone, rows-begin, rows-long, rows-put, leads-left, from-fits, to-fits, bytes-fit, part-within, part-lent, code-in, leads-known, rows-next, leads-long}
+use Rattle.joins.proofs.Rows.{RowsDone, rows-begin, rows-long, rows-put, leads-left, from-fits, to-fits, bytes-fit, part-within, part-lent, code-in, code-merges, rows-next, leads-long}
 use Rattle.joins.proofs.put_led_rows.Statement.{statement}
 use Rattle.joins.proofs.put_led_rows.Tie as tie
 
 abbrev Inv-loop : tie.InvT-loop
-Inv-loop w p many-array many-at many-keys many-rows array at keys rows join skip list leads₀ out₀ marked₀ i₀ leads out marked i =
-    RowsDone w (namesOf join) (namesOf skip) p many-array many-at many-keys many-rows array at keys rows list out₀ leads out marked i
+Inv-loop w p many-array many-at many-keys many-rows array at keys rows join skip ends list leads₀ out₀ marked₀ i₀ leads out marked i =
+    RowsDone w (namesOf join) (namesOf skip) p many-array many-at many-keys many-rows array at keys rows ends list out₀ leads out marked i
 
 abbrev μ-loop : tie.MeasureT-loop
-μ-loop w p many-array many-at many-keys many-rows array at keys rows join skip list leads₀ out₀ marked₀ i₀ leads out marked i =
+μ-loop w p many-array many-at many-keys many-rows array at keys rows join skip ends list leads₀ out₀ marked₀ i₀ leads out marked i =
     length list - i
 
 loop-holds : tie.Need-loop-holds Inv-loop μ-loop
@@ -43,7 +43,10 @@ part-put-code-row-end : tie.Need-part-put-code-row-end Inv-loop μ-loop
 part-put-code-row-end c = search part-within
 
 put-code-row-requires : tie.Need-put-code-row-requires Inv-loop μ-loop
-put-code-row-requires c κs = (part-lent _ _ _ _ _ _ _ _ _ _ _ _ _ _ _ _ _ _ (c .before .before .before .before .loop .inv) (c .before .before .before .loop-test .taken), (search code-in, search leads-known))
+put-code-row-requires c κs =
+    let inv = c .before .before .before .before .loop .inv in
+    let more = c .before .before .before .loop-test .taken in
+    (part-lent _ _ _ _ _ _ _ _ _ _ _ _ _ _ _ _ _ _ _ inv more, (inv .asked .known, (code-in _ _ _ _ _ _ _ _ _ _ _ _ _ _ _ _ _ _ _ inv more, (code-merges _ _ _ _ _ _ _ _ _ _ _ _ _ _ _ _ _ _ _ inv more, inv .led))))
 
 add-i : tie.Need-add-i Inv-loop μ-loop
 add-i c = search needs
