@@ -41,7 +41,7 @@ fn walk_records(array: &[u8], n: usize, at: &mut [usize; 513]) -> Walked
     let mut p: usize = 0;
     while i < n {
         at[i] = p;
-        match metric_name::read_record(array, p) {
+        match label_reader::read_at(array, p) {
             Record::Ok { next } => {
                 p = next;
                 i += 1;

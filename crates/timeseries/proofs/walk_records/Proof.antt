@@ -20,8 +20,8 @@ mul-at c = search needs
 element-write-at : tie.Need-element-write-at Inv-loop μ-loop
 element-write-at c = search needs
 
-read-record-requires : tie.Need-read-record-requires Inv-loop μ-loop
-read-record-requires c κs = search needs
+read-at-requires : tie.Need-read-at-requires Inv-loop μ-loop
+read-at-requires c κs = search needs
 
 enum-known-next : tie.Need-enum-known-next Inv-loop μ-loop
 enum-known-next c = search needs
@@ -68,7 +68,7 @@ walk-records-spec =
     loop-holds
     mul-at
     element-write-at
-    read-record-requires
+    read-at-requires
     enum-known-next
     add-i
     loop-less

@@ -1,0 +1,40 @@
+// Label records read through a reader: the label array, borrowed, and a position in it. The work is in `metric_name`.
+use metric_name::Record;
+ghost use mathlib.Core.Path.{_≡_};
+ghost use Rattle.label_reader.specs.Reads.{readFrom};
+
+pub struct LabelReader<'a> {
+    pub labels: &'a [u8],
+    pub at: usize,
+}
+
+// A reader at a position of a label array.
+pub fn reader_at<'a>(labels: &'a [u8], at: usize) -> LabelReader<'a>
+    ensures { λ r. ⌜ (r .labels ≡ labels .entry) × (r .at ≡ at) ⌝ }
+{
+    LabelReader { labels, at }
+}
+
+// The reader, moved to another position of its array.
+pub fn moved<'a>(r: LabelReader<'a>, at: usize) -> LabelReader<'a>
+    ensures { λ q. ⌜ (q .labels ≡ r .entry .labels) × (q .at ≡ at) ⌝ }
+{
+    LabelReader {
+        labels: r.labels,
+        at,
+    }
+}
+
+// The record at the reader's position.
+pub fn read<'a>(r: LabelReader<'a>) -> Record
+    ensures { λ x. ⌜ x ≡ readFrom (now (r .entry .labels)) (r .entry .at) ⌝ }
+{
+    metric_name::read_record(r.labels, r.at)
+}
+
+// The record at a position of a label array, through a reader.
+pub fn read_at(labels: &[u8], at: usize) -> Record
+    ensures { λ x. ⌜ x ≡ readFrom (now (labels .entry)) at ⌝ }
+{
+    read(reader_at(labels, at))
+}
