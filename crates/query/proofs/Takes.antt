@@ -1,7 +1,7 @@
 -- What taking a query answers, by what the tests found. Assumes nothing.
 use Prim.Native.Nat.{ℕ, zero, suc, _≤_, _<_, _+_, _-_, _%_}
 use mathlib.Core.Path.{_≡_, refl, sym, ap, _∙_}
-use mathlib.Core.List.{List, [], _∷_}
+use mathlib.Core.List.{List, [], _∷_, map}
 use mathlib.Core.Option.{Option, none, some}
 use mathlib.Core.Bool.{Bool, true, false, cond, _&&_, _||_}
 use native.Mathlib.Omega.{arith}
@@ -12,7 +12,10 @@ use borrow.Author.Tests.{le-leb, lt-leb}
 use Rattle.operator.specs.declared.Operator.{Operator}
 use Rattle.operator.specs.declared.Coded.{Coded}
 use Rattle.operator.specs.declared.Coded.the-variants.{Known, Unknown}
-use Rattle.operator.specs.Operators.{operatorOf, coded, codedOf, isCarried}
+use Rattle.operator.specs.declared.OperatorRow.{OperatorRow}
+use Rattle.operator.specs.Operators.{operators, nth, operatorOf, coded, codedOf, isCarried}
+use Rattle.operator.specs.Table as Table
+use Rattle.operator.specs.Table.{table, unlisted, rowOf, Claims, claimed, agrees}
 use Rattle.model.specs.Lists.{isEmpty}
 use Rattle.model.specs.Edits.{Names}
 use Rattle.model.specs.Query as Model
@@ -168,13 +171,38 @@ coded-some : (w : Option Operator) (o : Operator) → coded w ≡ Known o → w 
 coded-some none o e = cc
 coded-some (some p) o e = cc
 
+-- the table's row of an operator's byte says whether it is carried
+
+abbrev carriedFirst : List Claims → Bool
+carriedFirst [] = false
+carriedFirst (c ∷ cs) = c .carried
+
+abbrev behindFirst : List Claims → List Claims
+behindFirst [] = []
+behindFirst (c ∷ cs) = cs
+
+row-carried : (rs : List OperatorRow) (os : List Operator) → map claimed rs ≡ map Table.tested os → (n : ℕ) (o : Operator) → nth os n ≡ some o → getD rs n unlisted .carried ≡ isCarried o
+row-carried rs [] e n o h = cc
+row-carried [] (p ∷ os) e n o h = cc
+row-carried (r ∷ rs) (p ∷ os) e zero o h = ap carriedFirst e ∙ ap isCarried (the-some p o h)
+  where
+    the-some : (p o : Operator) → some p ≡ some o → p ≡ o
+    the-some p o h = cc
+row-carried (r ∷ rs) (p ∷ os) e (suc n) o h = row-carried rs os (ap behindFirst e) n o h
+
+carried-byte : (n : ℕ) (o : Operator) → operatorOf n ≡ some o → rowOf n .carried ≡ isCarried o
+carried-byte n o h = row-carried table operators agrees n o h
+
 module _ (s : List ℕ) (some-bytes : length s ≡ 0 → ⊥) (x : Coded) (hx : x ≡ codedOf (getD s 0 0)) where
   pub unknown : x ≡ Unknown → TakenAs s (Model.takeQuery s) BadOperator
   unknown u = refused-operator s _ (begun s some-bytes ∙ rw (coded-none (operatorOf (getD s 0 0)) (sym hx ∙ u)))
 
-  module _ (o : Operator) (u : x ≡ Known o) (b : Bool) (hb : b ≡ isCarried o) where
+  module _ (o : Operator) (u : x ≡ Known o) (b : Bool) (hb : b ≡ rowOf (getD s 0 0) .carried) where
+    stands : operatorOf (getD s 0 0) ≡ some o
+    stands = coded-some (operatorOf (getD s 0 0)) o (sym hx ∙ u)
+
     known : Model.takeQuery s ≡ cond b (Model.modified o (drop 1 s)) Model.badOperator
-    known = begun s some-bytes ∙ rw (coded-some (operatorOf (getD s 0 0)) o (sym hx ∙ u), hb)
+    known = begun s some-bytes ∙ rw (stands, hb, carried-byte (getD s 0 0) o stands)
 
     pub not-carried : b ≡ false → TakenAs s (Model.takeQuery s) BadOperator
     not-carried e = refused-operator s _ (known ∙ rw e)

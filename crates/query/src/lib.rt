@@ -6,6 +6,7 @@ ghost use lib.Dec.{eqb};
 ghost use lib.ListN.{length, drop};
 ghost use Rattle.model.specs.Query as Model;
 ghost use Rattle.model.specs.Query.{resets};
+ghost use Rattle.operator.specs.Table.{rowOf};
 ghost use Rattle.labels.specs.Matchings.{matchingOf};
 ghost use Rattle.query.specs.Queries.{joinOf, endOf, ListsAt, TakenAs};
 use labels::Matching;
@@ -185,15 +186,24 @@ fn take_modifier(s: &[u8], operator: Operator) -> Request
     }
 }
 
+// Whether calls run the operator of a byte, by the operator table.
+fn is_carried(b: u8) -> bool
+    ensures { λ r. ⌜ r ≡ rowOf b .carried ⌝ }
+{
+    let row = operator::operator_row(b);
+    row.carried
+}
+
 pub fn take_query(s: &[u8]) -> Request
     ensures { λ r. ⌜ TakenAs (now (s .entry)) (Model.takeQuery (now (s .entry))) r ⌝ }
 {
     if s.len() == 0 {
         return Request::Malformed;
     }
-    match Operator::from_byte(s[0]) {
+    let b = s[0];
+    match Operator::from_byte(b) {
         Coded::Known(operator) => {
-            if operator.is_carried() {
+            if is_carried(b) {
                 take_modifier(s, operator)
             } else {
                 Request::BadOperator
