@@ -47,10 +47,10 @@ returns-2 c =
     rows-too-long lent _ _ _ _ tally _ asked told
 
 same-length : tie.Need-same-length
-same-length c = search needs
+same-length c = c .before .before .before .labels .given
 
 same-length-2 : tie.Need-same-length-2
-same-length-2 c = search needs
+same-length-2 c = c .before .out .given
 
 returns-3 : tie.Need-returns-3
 returns-3 c =

@@ -1,5 +1,4 @@
 -- `binary_op_and` meets its contract. Assumes nothing.
-use mathlib.Core.Path.{refl}
 use Rattle.set_operators.proofs.Lent.{never-falls}
 use borrow.Author.Needs.{needs}
 use Rattle.set_operators.proofs.binary_op_and.Statement.{statement}
@@ -8,13 +7,13 @@ use Rattle.set_operators.proofs.binary_op_and.Tie as tie
 run-set-requires : tie.Need-run-set-requires
 run-set-requires c κs =
     let pre = c .before .before .before .before .before .before .before .before .before .before .before .before .pre in
-    never-falls (pre .0) (pre .1 .0) (pre .1 .1) refl
+    never-falls (pre .0) (pre .1 .0) (pre .1 .1) cc
 
 same-length : tie.Need-same-length
-same-length c = search needs
+same-length c = c .before .before .before .labels .given
 
 same-length-2 : tie.Need-same-length-2
-same-length-2 c = search needs
+same-length-2 c = c .before .out .given
 
 returns : tie.Need-returns
 returns c = c .before .before .before .before .run-set .ensures

@@ -17,10 +17,10 @@ put-records-requires c κs =
     (lent .sides .leftSide .records, (lent .sides .rightSide .records, (rows-below lent, pre .1 .1 .labelPart)))
 
 same-length : tie.Need-same-length
-same-length c = search needs
+same-length c = c .before .labels .given
 
 same-length-2 : tie.Need-same-length-2
-same-length-2 c = search needs
+same-length-2 c = c .before .before .before .before .before .out .given
 
 returns : tie.Need-returns
 returns c =

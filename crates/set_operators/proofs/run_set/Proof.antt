@@ -40,16 +40,16 @@ pub run-set-spec : {M : Type 1} → statement M
 run-set-spec =
     tie.close
     (tie.spec
-    (λ c. search needs)
+    (λ c. refl)
     side-ends-requires
     (λ c. search needs)
-    (λ c. search needs)
+    (λ c. refl)
     list-rows-requires
     returns
     (λ c. search needs)
     (λ c. search needs)
     slice-aggregate-answer-rows-2
     answer-rows-requires
-    (λ c. search needs)
-    (λ c. search needs)
+    (λ c. c .before .before .before .labels .given)
+    (λ c. c .before .out .given)
     returns-2)
