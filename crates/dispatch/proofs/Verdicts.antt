@@ -15,6 +15,7 @@ use Rattle.model.specs.Labels.{Labels}
 use Rattle.model.specs.Laws.Booleans.{never}
 use Rattle.model.specs.Query as Model
 use Rattle.model.specs.Vector.{Series, seriesOf}
+use Rattle.model.specs.Laws.Vector.{series-count}
 use Rattle.semantics.specs.Binop.{adds, allowedOverlaps, scalarSide, isBare}
 use Rattle.semantics.specs.Call as Call
 use Rattle.semantics.specs.Call.{fit, concluded, verdict}
@@ -29,7 +30,6 @@ use Rattle.timeseries.specs.Sides.{labelsIn, sideOf}
 use Rattle.timeseries.specs.SideLaws.{labels-count}
 use Rattle.set_rules.specs.Rules.{bareSide}
 use Rattle.keyed_sides.specs.Lent.{LentSide}
-use Rattle.keyed_sides.specs.KeyNumbers.{series-count}
 use Rattle.keyed_sides.specs.Keyed.{dropsMissing, KeyedSide, Keyed}
 use Rattle.dispatch.specs.Runs.{ranOver}
 use Rattle.dispatch.specs.Families as Families

@@ -12,7 +12,7 @@ use Rattle.model.specs.Lists.{All, isEmpty}
 use Rattle.model.specs.Labels.{Labels}
 use Rattle.model.specs.Query.{Query, oneToOne, group, left, right}
 use Rattle.model.specs.Vector.{Series, Shape, seriesOf, readingsOf}
-use Rattle.model.specs.Laws.Vector.{series-readings}
+use Rattle.model.specs.Laws.Vector.{series-count, series-labels, series-readings}
 use Rattle.semantics.specs.Binop.{adds, allowedOverlaps, scalarSide}
 use Rattle.semantics.specs.Call.{Outcome, concluded, verdict}
 use Rattle.plan.specs.Conclude.{conclude}
@@ -25,7 +25,6 @@ use Rattle.plan.specs.Laws.Merging.{RowsAt, rows-of}
 use Rattle.plan.specs.Laws.Pairs.{comparison-concludes, arithmetic-concludes}
 use Rattle.plan.specs.Laws.Joins.{comparison-joins-left, arithmetic-joins-left, comparison-joins-right, arithmetic-joins-right}
 use Rattle.plan.specs.Laws.Sets.{isGiven, set-concludes, fallback-concludes}
-use Rattle.keyed_sides.specs.KeyNumbers.{series-labels, series-count}
 
 series-widths : (p : ℕ) (ls : List Labels) (r : List ℕ) → length r ≡ length ls * p → All (λ b. length (b .row) ≡ p) (seriesOf p ls r)
 unfolding seriesOf

@@ -1,32 +1,20 @@
 -- The code's key numbers are those of the plan. Assumes nothing.
-use Prim.Native.Nat.{ℕ, zero, suc, _+_, _*_, _≤_, _<_}
+use Prim.Native.Nat.{ℕ, _+_, _≤_, _<_}
 use mathlib.Core.Path.{_≡_, refl, sym, ap, _∙_}
-use mathlib.Core.Bool.{cond}
-use mathlib.Core.List.{List, [], _∷_, _++_, map}
+use mathlib.Core.List.{List, [], _∷_, _++_}
 use native.Mathlib.Omega.{arith}
 use lib.Dec.{eqb}
 use lib.ListN.{length, getD, take, drop}
 use Rattle.model.specs.Labels.{Labels}
 use Rattle.model.specs.Query.{Query, sameKey}
 use Rattle.model.specs.Vector.{Series, seriesOf}
+use Rattle.model.specs.Laws.Vector.{series-labels, series-count}
 use Rattle.key_places.specs.Dropped.{keptNumber, droppedMissing}
 use Rattle.key_numbers.specs.Keys.{sameKeys, numbers}
 use Rattle.key_numbers.specs.KeyLaws.{left-left, left-right, right-right, left-below, right-below}
-use Rattle.plan.specs.Keys.{dropped}
-use Rattle.plan.specs.Laws.Common.{noSeries, labelsOfSide, getD-labels}
+use Rattle.plan.specs.Laws.Common.{noSeries, getD-labels}
 use Rattle.plan.specs.Laws.Numbers.{TellsKeys, KeysTold, droppedKeys}
 use Rattle.plan.specs.Pairs.{noLabels}
-
--- the labels of a side's series are its records' labels
-pub series-labels : (p : ℕ) (ls : List Labels) (readings : List ℕ) → labelsOfSide (seriesOf p ls readings) ≡ ls
-unfolding seriesOf
-series-labels p [] readings = refl
-series-labels p (l ∷ ls) readings = ap (λ x. l ∷ x) (series-labels p ls (drop p readings))
-
-pub series-count : (p : ℕ) (ls : List Labels) (readings : List ℕ) → length (seriesOf p ls readings) ≡ length ls
-unfolding seriesOf
-series-count p [] readings = refl
-series-count p (l ∷ ls) readings = ap suc (series-count p ls (drop p readings))
 
 -- series dropped by their rows in one array
 pub dropped-rows : (p : ℕ) (rows : List ℕ) (ks : List ℕ) (ls : List Labels) → length ks ≡ length ls → droppedKeys ks (seriesOf p ls rows) ≡ droppedMissing p rows ks

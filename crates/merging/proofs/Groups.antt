@@ -13,6 +13,7 @@ use lib.Seq.{drop-cons, length-take-le, take-all}
 use borrow.Author.Tests.{eq-eqb, ne-eqb}
 use Rattle.model.specs.Lists.{cases}
 use Rattle.model.specs.Row.{overwritten, merged}
+use Rattle.model.specs.Laws.Row.{overwritten-wide}
 use Rattle.merge.specs.declared.Merged.{Merged}
 use Rattle.merge.specs.declared.Merged.the-variants as M
 use Rattle.merge.specs.Merging.{Merging, done, overlapping, refused, doneOr, mergedIf, mergedAlone, MergedAs}
@@ -22,7 +23,7 @@ use Rattle.merging.specs.declared.Merges.{Merges}
 use Rattle.merging.specs.declared.Merges.the-variants.{Done, FailedAt}
 use Rattle.merging.specs.Groups.{Ends, absorbedOne, thereIf, AbsorbedAs, MergedGroup}
 use Rattle.key_places.specs.Places as Places
-use Rattle.merging.specs.Laws.{first-places, last-places, last-within, ends-within, several-merged, overwritten-wide}
+use Rattle.merging.specs.Laws.{first-places, last-places, last-within, ends-within, several-merged}
 
 -- `absorb`
 

@@ -124,9 +124,3 @@ module _ (allowance p : ℕ) (rows : List ℕ) (k : ℕ) where
 
     pub several-merged : first < last → mergedIf true (rowAt p rows last) (rowAt p rows first) ≡ merged allowance (rowAt p rows last) (rowAt p rows first) → mergeLast allowance p rows keys k ≡ mergeGroup allowance p rows k (suc first) (take (last - suc first) (drop (suc first) keys)) (overwritten (rowAt p rows last) (rowAt p rows first))
     several-merged h m = several h ∙ rw (← m)
-
-pub overwritten-wide : (d s : List ℕ) → length (overwritten d s) ≡ length d
-unfolding overwritten
-overwritten-wide [] s = refl
-overwritten-wide (x ∷ d) [] = refl
-overwritten-wide (x ∷ d) (y ∷ s) = ap suc (overwritten-wide d s)

@@ -6,4 +6,6 @@ pub mod Record
 pub mod Edits
 pub mod SetTags
 pub mod Query
+pub mod Row
 pub mod Vector
+pub mod Faults

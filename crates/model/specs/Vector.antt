@@ -2,7 +2,7 @@
 use Prim.Native.Nat.{ℕ, zero, suc, _+_, _*_, _/_, _%_, _≤_, _<_}
 use mathlib.Core.Path.{_≡_}
 use mathlib.Core.Bool.{_&&_, cond}
-use mathlib.Core.List.{List, [], _∷_, _++_}
+use mathlib.Core.List.{List, [], _∷_, _++_, map}
 use lib.Dec.{leb, eqb}
 use lib.ListN.{length, getD, take, drop}
 use Rattle.model.specs.Limits.{maxSeries, maxPoints, maxTags, maxLabelBytes}
@@ -21,6 +21,9 @@ pub record Shape : Type 0 where
 pub record Vector : Type 0 where
   pub shape : Shape
   pub series : List Series
+
+abbrev pub labelsOfAll : List Series → List Labels
+labelsOfAll ss = map (λ s. s .labels) ss
 
 -- encoding
 

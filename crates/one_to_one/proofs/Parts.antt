@@ -11,11 +11,12 @@ use lib.ListN.{length, getD, take, drop, length-take, length-drop}
 use borrow.Rule.Slice.PartMut.{putMid}
 use Rattle.operator.specs.declared.Operator.{Operator}
 use Rattle.model.specs.Reading.{scalarOp}
+use Rattle.model.specs.Laws.Row.{zip-wide}
 use Rattle.answers.proofs.Rows.{RowsWriting, rows-start, row-within, rows-turn}
 use Rattle.key_ends.specs.Codes.{CodeOf, PairEnds, code-at}
 use Rattle.pairs.specs.Pairing.{sidesOf}
 use Rattle.one_to_one.specs.Rows.{sideRow, pairedRow, Paired, PairedRows}
-use Rattle.one_to_one.proofs.Widths.{zip-wide, merged-wide}
+use Rattle.one_to_one.proofs.Widths.{merged-wide}
 
 -- row r begins and ends at numbers of one word
 

@@ -12,6 +12,7 @@ use Rattle.model.specs.Reading.{noReading, scalarOp}
 use Rattle.model.specs.Row.{zipWith}
 use Rattle.model.specs.Query.{Query, Side, left, right, group}
 use Rattle.model.specs.Vector.{Series, Shape}
+use Rattle.model.specs.Laws.Lists.{keep-swap}
 use Rattle.semantics.specs.Places.{Place, Placed, placed, Rank}
 use Rattle.semantics.specs.Events.{Event, good, bad, Ranked, Rule, Verdict, answer, duplicate, ofKey, producedBy, emission, events, settle}
 use Rattle.semantics.specs.Rules.{other, ofSide, pairs, groups, hasReadings}
@@ -23,7 +24,7 @@ use Rattle.theorems.specs.Claims.Partition.{isRefused}
 use Rattle.theorems.specs.Claims.Prometheus.{readingAt, In, afterDrop, joinedSeries, matchesOf, IsJoin, ManySide, Served, EveryMatchServed, onPoint, SingleMatchServed, ManySideApart, Answers, AnswersVerdict}
 use Rattle.theorems.specs.Dealing.Fitting.{fits-fit, Way, fine, too-big, no-room, fit-way}
 use Rattle.theorems.specs.Outcomes.{taken-call}
-use Rattle.theorems.specs.Laws.Members.{in-gather, in-map, from-map, from-keep, keep-swap, all-in}
+use Rattle.theorems.specs.Laws.Members.{in-gather, in-map, from-map, from-keep, all-in}
 use Rattle.theorems.specs.Laws.Answered.{IsGood, goods, answered, in-goods, given-is}
 use Rattle.theorems.specs.Laws.Groups.{EventOf, served, failed, group-event, grouped-one}
 

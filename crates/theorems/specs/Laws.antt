@@ -1,4 +1,3 @@
-pub mod Faults
 pub mod Members
 pub mod Order
 pub mod Renumber

@@ -6,11 +6,11 @@ use mathlib.Core.List.{List}
 use borrow.Author.Tests.{eq-eqb, eqb-true}
 use Rattle.model.specs.Query.{Query, TakenQuery, query, badOperator, malformed, takeQuery}
 use Rattle.model.specs.Vector.{Series, Shape, Vector, TakenVector, vector, faulty, takeVector}
+use Rattle.model.specs.Laws.Faults.{fault-of}
 use Rattle.semantics.specs.Places.{Rank}
 use Rattle.semantics.specs.Events.{Ranked, Verdict, answer, duplicate}
 use Rattle.semantics.specs.Call.{Outcome, refused, call, running, concluded, verdict, fit, overLimits, overRoom, sameShape, onVector, onQuery}
 use Rattle.theorems.specs.Claims.Outcomes.{Taken, written, seriesIn, OutcomeOf, number-1, number-2, left-3-to-5, right-3-to-5, number-6, number-7-or-8, number-9, number-10, vector-answered, EveryOutcome, NoOther}
-use Rattle.theorems.specs.Laws.Faults.{FaultOf, take-fault}
 
 module _ (s ll lr rl rr : List ℕ) (a b : ℕ) where
   abbrev Told : Outcome → Type 0
@@ -43,16 +43,16 @@ module _ (s ll lr rl rr : List ℕ) (a b : ℕ) where
             (record { asked = asked; lefts = hl; rights = hr ∙ ap (λ (x : Shape). vector (record { shape = x; series = r .series })) z })
             (verdict q (l .series) (r .series)) refl
 
-    on-right : (l : Vector) → takeVector 0 ll lr ≡ vector l → (w : TakenVector) → takeVector 1 rl rr ≡ w → FaultOf 1 w → Told (onVector w (λ r. running a b q l r))
-    on-right l hl (vector r) e f = ran l r hl e
-    on-right l hl (faulty n side i) e f = rw (f .2) (right-3-to-5 q asked l hl n i (f .0) (f .1) (e ∙ ap (λ x. faulty n x i) (f .2)))
+    on-right : (l : Vector) → takeVector 0 ll lr ≡ vector l → (w : TakenVector) → takeVector 1 rl rr ≡ w → Told (onVector w (λ r. running a b q l r))
+    on-right l hl (vector r) e = ran l r hl e
+    on-right l hl (faulty n side i) e = let f = fault-of 1 rl rr n side i e in rw (f .names) (right-3-to-5 q asked l hl n i (f .least) (f .most) (e ∙ ap (λ x. faulty n x i) (f .names)))
 
-    on-left : (w : TakenVector) → takeVector 0 ll lr ≡ w → FaultOf 0 w → Told (onVector w (λ l. onVector (takeVector 1 rl rr) (λ r. running a b q l r)))
-    on-left (vector l) e f = on-right l e (takeVector 1 rl rr) refl (take-fault 1 rl rr)
-    on-left (faulty n side i) e f = rw (f .2) (left-3-to-5 q asked n i (f .0) (f .1) (e ∙ ap (λ x. faulty n x i) (f .2)))
+    on-left : (w : TakenVector) → takeVector 0 ll lr ≡ w → Told (onVector w (λ l. onVector (takeVector 1 rl rr) (λ r. running a b q l r)))
+    on-left (vector l) e = on-right l e (takeVector 1 rl rr) refl
+    on-left (faulty n side i) e = let f = fault-of 0 ll lr n side i e in rw (f .names) (left-3-to-5 q asked n i (f .least) (f .most) (e ∙ ap (λ x. faulty n x i) (f .names)))
 
   on-query : (w : TakenQuery) → takeQuery s ≡ w → Told (onQuery w (λ q. onVector (takeVector 0 ll lr) (λ l. onVector (takeVector 1 rl rr) (λ r. running a b q l r))))
-  on-query (query q) e = on-left q e (takeVector 0 ll lr) refl (take-fault 0 ll lr)
+  on-query (query q) e = on-left q e (takeVector 0 ll lr) refl
   on-query badOperator e = number-1 e
   on-query malformed e = number-2 e
 

@@ -24,6 +24,7 @@ use Rattle.model.specs.Vector.{Series, Shape, Vector, vector, takeVector, sizes
 use Rattle.model.specs.Laws.Booleans.{neither-of}
 use Rattle.model.specs.Laws.Lists.{All-map, All-append}
 use Rattle.model.specs.Laws.Edits.{clear-well, on-well, ignoring-well, set-tags-well}
+use Rattle.model.specs.Laws.Row.{overwritten-wide, zip-wide}
 use Rattle.model.specs.Laws.Vector.{take-valid, readings-length, labels-bytes, readings-words}
 use Rattle.semantics.specs.Places.{Placed, numbered, placed, Rank}
 use Rattle.semantics.specs.Events.{Ranked, Verdict, answer, duplicate}
@@ -87,23 +88,11 @@ record GoodRow (p : ℕ) (r : List ℕ) : Type 0 where
   width : length r ≡ p
   words : Readings r
 
-overwritten-length : (d s : List ℕ) → length (overwritten d s) ≡ length d
-unfolding overwritten
-overwritten-length [] s = refl
-overwritten-length (x ∷ d) [] = refl
-overwritten-length (x ∷ d) (y ∷ s) = ap suc (overwritten-length d s)
-
 overwritten-words : (d s : List ℕ) → Readings d → Readings s → Readings (overwritten d s)
 unfolding overwritten
 overwritten-words [] s h k = tt
 overwritten-words (x ∷ d) [] h k = h
 overwritten-words (x ∷ d) (y ∷ s) h k = (cond-word (missing y) x y (h .0) (k .0), overwritten-words d s (h .1) (k .1))
-
-zip-length : (op : ℕ → ℕ → ℕ) (x y : List ℕ) → length x ≡ length y → length (zipWith op x y) ≡ length x
-unfolding zipWith
-zip-length op [] y e = refl
-zip-length op (a ∷ x) [] e = sym e
-zip-length op (a ∷ x) (b ∷ y) e = let z : length x ≡ length y = omega (arith, e) in ap suc (zip-length op x y z)
 
 zip-words : (op : ℕ → ℕ → ℕ) → ((a b : ℕ) → Word a → Word (op a b)) → (x y : List ℕ) → Readings x → Readings (zipWith op x y)
 unfolding zipWith
@@ -113,7 +102,7 @@ zip-words op w (a ∷ x) (b ∷ y) h = (w a b (h .0), zip-words op w x y (h .1))
 
 zip-good : (p : ℕ) (o : Operator) (bool : Bool) (x y : List ℕ) → GoodRow p x → GoodRow p y → GoodRow p (zipWith (scalarOp o bool) x y)
 zip-good p o bool x y h k =
-    record { width = zip-length (scalarOp o bool) x y (h .width ∙ sym (k .width)) ∙ h .width; words = zip-words (scalarOp o bool) (scalar-word o bool) x y (h .words) }
+    record { width = zip-wide (scalarOp o bool) p x y (h .width) (k .width); words = zip-words (scalarOp o bool) (scalar-word o bool) x y (h .words) }
 
 pointwise-length : (f : ℕ → ℕ → ℕ) (i : ℕ) (x : List ℕ) → length (pointwise f i x) ≡ length x
 pointwise-length f i [] = refl
@@ -144,7 +133,7 @@ module _ (p : ℕ) where
       go false =
           record {
             labels = h .labels;
-            row = record { width = overwritten-length (b .row) (c .row) ∙ h .row .width; words = overwritten-words (b .row) (c .row) (h .row .words) (k .row .words) };
+            row = record { width = overwritten-wide (b .row) (c .row) ∙ h .row .width; words = overwritten-words (b .row) (c .row) (h .row .words) (k .row .words) };
           }
 
   edited-well : (m : Matching) (names : Names) (keepNames : Bool) (l : Labels) → WellFormed l → WellFormed (editedBy m names keepNames l)

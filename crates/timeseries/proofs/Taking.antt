@@ -1,8 +1,8 @@
 -- `take_vector`, a lemma for each way out. Assumes nothing.
-use Prim.Native.Nat.{ℕ, zero, suc, _+_, _-_, _*_, _≤_, _<_}
+use Prim.Native.Nat.{ℕ, _+_, _-_, _*_, _≤_, _<_}
 use mathlib.Core.Path.{_≡_, refl, sym, ap, _∙_}
 use mathlib.Core.Bool.{Bool, true, false, cond}
-use mathlib.Core.List.{List, [], _∷_}
+use mathlib.Core.List.{List}
 use native.Mathlib.Numerals.{add-one}
 use native.Mathlib.Nat.{mul-le-mul-left, mul-le-mul-right, le-trans}
 use native.Mathlib.Omega.{arith}
@@ -12,9 +12,10 @@ use lib.Dec.{eqb}
 use lib.ListN.{length, getD, take, drop, length-drop}
 use lib.Seq.{take-all, sets}
 use borrow.Author.Tests.{le-leb, lt-leb, eq-eqb, ne-eqb}
-use Rattle.model.specs.Vector.{Shape, TakenVector, vector, faulty, Records, records, badRecord, recordsIn, seriesOf, withReadings, twoBytesAt, takeVector}
-use Rattle.timeseries.specs.Takes.{takenOf, walkedOf, noted, notedIn, WalkedInto, TakenInto}
-use Rattle.timeseries.specs.TakeLaws.{RecordFault, three, four, bad-number, records-count, series-count}
+use Rattle.model.specs.Vector.{Shape, Records, records, badRecord, recordsIn, seriesOf, withReadings, twoBytesAt, takeVector}
+use Rattle.model.specs.Laws.Vector.{records-read, series-count}
+use Rattle.model.specs.Laws.Faults.{RecordFault, three, four, bad-number}
+use Rattle.timeseries.specs.Takes.{takenOf, walkedOf, notedIn, WalkedInto, TakenInto}
 use Rattle.timeseries.specs.declared.Walked.{Walked}
 use Rattle.timeseries.specs.declared.Walked.the-variants as W
 use Rattle.timeseries.specs.declared.Taken.{Taken}
@@ -38,7 +39,7 @@ whole-unread n shape x (badRecord k i) e h = not-whole (eqb k 3) i i e
 
 whole-read : (n : ℕ) (shape : Shape) (s x : List ℕ) (o : Records) → recordsIn n 0 s ≡ o → W.Whole ≡ walkedOf o → length x ≡ n * shape .points → T.Vector n (shape .points) ≡ takenOf (withReadings 0 n shape x o)
 whole-read n shape s x (records ls) f e h =
-    let count : length (seriesOf (shape .points) ls x) ≡ n = series-count (shape .points) ls x ∙ records-count n 0 s ls f in
+    let count : length (seriesOf (shape .points) ls x) ≡ n = series-count (shape .points) ls x ∙ records-read n 0 s ls f .count in
     rw (eq-eqb (length x) (n * shape .points) h, count)
 whole-read n shape s x (badRecord k i) f e h = not-whole (eqb k 3) i i e
 

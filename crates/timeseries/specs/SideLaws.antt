@@ -1,7 +1,7 @@
 -- Laws of sides: records and rows by their number, and the positions of an encoded vector's records. Assumes nothing.
 use Prim.Native.Nat.{ℕ, zero, suc, _+_, _-_, _*_, _≤_, _<_}
 use mathlib.Core.Path.{_≡_, refl, sym, ap, _∙_}
-use mathlib.Core.List.{List, [], _∷_, _++_, map, append-assoc, append-nil}
+use mathlib.Core.List.{List, [], _∷_, _++_, append-assoc, append-nil}
 use native.Mathlib.Numerals.{add-one}
 use native.Mathlib.Nat.{zero-mul}
 use native.Mathlib.Omega.{arith}
@@ -10,9 +10,10 @@ use lib.Seq.{take-at, drop-at, drop-drop, take-nil, getD-take}
 use Rattle.model.specs.Lists.{All}
 use Rattle.model.specs.Labels.{Labels}
 use Rattle.model.specs.Record.{encode}
-use Rattle.model.specs.Vector.{Series, Shape, labelPart, labelBytes, readingsOf, seriesOf, GoodSeries}
+use Rattle.model.specs.Vector.{Series, Shape, labelsOfAll, labelPart, labelBytes, readingsOf, seriesOf, GoodSeries}
+use Rattle.model.specs.Laws.Vector.{series-again}
 use Rattle.metric_name.specs.Lenient.{labelsOf, labels-encoded}
-use Rattle.timeseries.specs.Sides.{between, recordAt, labelsFrom, labelsIn, sideOf, rowAt, ends, starts, labelsOfAll, Positions}
+use Rattle.timeseries.specs.Sides.{between, recordAt, labelsFrom, labelsIn, sideOf, rowAt, ends, starts, Positions}
 
 -- records by their number, at any positions
 
@@ -145,11 +146,6 @@ last-end p (s ∷ ss) = last-end (p + length (encode (s .labels))) ss ∙ (omega
 -- the last position is the array's end
 pub starts-end : (ss : List Series) → getD (starts 0 (labelsOfAll ss)) (length ss) 0 ≡ length (labelBytes ss)
 starts-end ss = last-end 0 ss ∙ (omega arith)
-
-series-again : (p : ℕ) (ss : List Series) → All (GoodSeries p) ss → seriesOf p (labelsOfAll ss) (readingsOf ss) ≡ ss
-unfolding seriesOf readingsOf
-series-again p [] a = refl
-series-again p (s ∷ ss) a = rw (take-at (s .row) (readingsOf ss) p (a .0 .width), drop-at (s .row) (readingsOf ss) p (a .0 .width), series-again p ss (a .1))
 
 pub side-starts : (p : ℕ) (ss : List Series) → All (GoodSeries p) ss → sideOf (labelBytes ss) (starts 0 (labelsOfAll ss)) p (readingsOf ss) ≡ ss
 side-starts p ss a = rw (labels-starts ss) (series-again p ss a)

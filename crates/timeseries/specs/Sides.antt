@@ -1,6 +1,6 @@
 -- A side of a call as it is lent: a label array, the positions of its records, and readings. Assumes nothing.
 use Prim.Native.Nat.{ℕ, _+_, _-_, _*_, _≤_, _<_}
-use mathlib.Core.List.{List, [], _∷_, map}
+use mathlib.Core.List.{List, [], _∷_}
 use lib.ListN.{length, getD, take, drop}
 use Rattle.model.specs.Labels.{Labels}
 use Rattle.model.specs.Record.{encode}
@@ -41,9 +41,6 @@ ends p (l ∷ ls) = (p + length (encode l)) ∷ ends (p + length (encode l)) ls
 -- where they start, and where the last ends: starts p (l ∷ ls) ≡ p ∷ starts (p + length (encode l)) ls
 abbrev pub starts : ℕ → List Labels → List ℕ
 starts p ls = p ∷ ends p ls
-
-abbrev pub labelsOfAll : List Series → List Labels
-labelsOfAll ss = map (λ s. s .labels) ss
 
 -- positions at which a label array can be cut into records
 pub record Positions (array at : List ℕ) : Type 0 where

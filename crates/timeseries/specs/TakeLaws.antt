@@ -1,8 +1,8 @@
--- Laws of taking: the side is in the fields alone, a fault's number, and the positions of a vector that is taken. Assumes nothing.
-use Prim.Native.Nat.{ℕ, zero, suc, _+_, _-_, _*_, _≤_, _<_}
+-- Laws of taking: what the code's answer says of the vector, and the positions of one that is taken. Assumes nothing.
+use Prim.Native.Nat.{ℕ, _+_, _-_, _*_, _≤_, _<_}
 use mathlib.Core.Path.{_≡_, refl, sym, ap, _∙_}
 use mathlib.Core.Bool.{Bool, true, false, cond, _&&_}
-use mathlib.Core.List.{List, [], _∷_, _++_, map}
+use mathlib.Core.List.{List, [], _∷_, _++_}
 use native.Mathlib.Omega.{arith}
 use lib.Dec.{leb, eqb}
 use lib.ListN.{length, take, drop, length-append, length-map}
@@ -10,166 +10,27 @@ use lib.Seq.{sets, length-sets, sets-eq, take-at, drop-at}
 use borrow.Author.Tests.{leb-true, eqb-true}
 use Rattle.model.specs.Limits.{maxSeries, maxPoints}
 use Rattle.model.specs.Labels.{Labels}
-use Rattle.model.specs.Record.{Decoded, decoded, cut, badKey, decode, encode}
-use Rattle.model.specs.Vector.{Series, Shape, Vector, labelBytes, TakenVector, vector, faulty, Records, records, badRecord, withRecord, onDecoded, recordsIn, seriesOf, withReadings, withSizes, twoBytesAt, takeVector}
+use Rattle.model.specs.Record.{encode}
+use Rattle.model.specs.Vector.{Shape, Vector, labelsOfAll, labelBytes, TakenVector, vector, faulty, Records, records, badRecord, recordsIn, seriesOf, withReadings, withSizes, twoBytesAt, takeVector}
 use Rattle.model.specs.Laws.Booleans.{both-of}
 use Rattle.model.specs.Laws.Record.{decode-is}
-use Rattle.timeseries.specs.Sides.{labelsIn, sideOf, ends, starts, labelsOfAll, Positions}
+use Rattle.model.specs.Laws.Vector.{ReadAs, records-read, read-bytes, series-count, series-labels, series-bytes}
+use Rattle.model.specs.Laws.Faults.{onSide, take-side, Fault, cutFault, keyFault, readingsFault, take-fault}
+use Rattle.timeseries.specs.Sides.{labelsIn, sideOf, ends, starts, Positions}
 use Rattle.timeseries.specs.SideLaws.{starts-count, labels-starts, positions-starts}
-use Rattle.timeseries.specs.Takes.{takenOf, takenNumber, takenPlace, walkedOf, onRest, noted, notedIn, TakenInto}
+use Rattle.timeseries.specs.Takes.{takenOf, takenNumber, takenPlace, noted, notedIn, TakenInto}
 use Rattle.timeseries.specs.declared.Taken.{Taken}
 use Rattle.timeseries.specs.declared.Taken.the-variants as T
 
-not-bad : {X : Type 0} (ls : List Labels) (k i : ℕ) → records ls ≡ badRecord k i → X
-not-bad ls k i e = absurd (let z : _≡_ {A = ℕ} 0 1 = cc in omega arith)
-
-not-records : {X : Type 0} (k i : ℕ) (ls : List Labels) → badRecord k i ≡ records ls → X
-not-records k i ls e = absurd (let z : _≡_ {A = ℕ} 0 1 = cc in omega arith)
-
--- records give 3 or 4
-pub data RecordFault (k : ℕ) : Type 0 where
-  three : k ≡ 3 → RecordFault k
-  four : k ≡ 4 → RecordFault k
-
-number-is : (a b k i j : ℕ) → badRecord a i ≡ badRecord b j → a ≡ b
-number-is a b k i j e = cc
-
-pub bad-number : (n i : ℕ) (s : List ℕ) (k j : ℕ) → recordsIn n i s ≡ badRecord k j → RecordFault k
-unfolding recordsIn
-bad-number zero i [] k j e = not-bad [] k j e
-bad-number zero i (x ∷ s) k j e = three (let z : 3 ≡ k = cc in sym z)
-bad-number (suc n) i s k j e = go (bad-number n (suc i)) (decode s) e
-  where
-    last : (l : Labels) (w : Records) → (w ≡ badRecord k j → RecordFault k) → withRecord l w ≡ badRecord k j → RecordFault k
-    last l (records ls) ih e = not-bad (l ∷ ls) k j e
-    last l (badRecord m o) ih e = ih e
-
-    go : ((s : List ℕ) (k j : ℕ) → recordsIn n (suc i) s ≡ badRecord k j → RecordFault k) → (d : Decoded) → onDecoded i d (recordsIn n (suc i)) ≡ badRecord k j → RecordFault k
-    go ih (decoded l rest) e = last l (recordsIn n (suc i) rest) (ih rest k j) e
-    go ih cut e = three (let z : 3 ≡ k = cc in sym z)
-    go ih badKey e = four (let z : 4 ≡ k = cc in sym z)
-
--- records one after another
-unfoldable pub recordBytes : List Labels → List ℕ
-recordBytes [] = []
-recordBytes (l ∷ ls) = encode l ++ recordBytes ls
-
--- what records that are read come to: their count, their bytes and their positions
-pub record RecordsRead (n size : ℕ) (s : List ℕ) (ls : List Labels) : Type 0 where
-  pub count : length ls ≡ n
-  pub bytes : s ≡ recordBytes ls
-  pub positions : noted size n s ≡ starts (size - length s) ls
-
-pub records-read : (n i size : ℕ) (s : List ℕ) (ls : List Labels) → length s ≤ size → recordsIn n i s ≡ records ls → RecordsRead n size s ls
-unfolding recordsIn noted ends recordBytes
-records-read zero i size [] ls h e = let z : ls ≡ [] = cc in rw z (record { count = refl; bytes = refl; positions = refl })
-records-read zero i size (x ∷ s) ls h e = not-records 3 i ls e
-records-read (suc n) i size s ls h e = go (records-read n (suc i) size) (decode s) refl e
-  where
-    Later : Type 0
-    Later = (s : List ℕ) (ls : List Labels) → length s ≤ size → recordsIn n (suc i) s ≡ records ls → RecordsRead n size s ls
-
-    last : Later → (l : Labels) (r : List ℕ) → decode s ≡ decoded l r → (w : Records) → recordsIn n (suc i) r ≡ w → withRecord l w ≡ records ls → RecordsRead (suc n) size s ls
-    last ih l r d (badRecord k j) f e = not-records k j ls e
-    last ih l r d (records ms) f e =
-        let b = decode-is s l r d .bytes in
-        let len : length s ≡ length (encode l) + length r = ap length b ∙ length-append (encode l) r in
-        let rest = ih r ms (omega (arith, h, len)) f in
-        let hls : ls ≡ l ∷ ms = cc in
-        let here : size - length r ≡ size - length s + length (encode l) = omega (arith, h, len) in
-        rw hls (record { count = ap suc (rest .count); bytes = b ∙ ap (λ (x : List ℕ). encode l ++ x) (rest .bytes); positions = rw d (ap (λ (x : List ℕ). (size - length s) ∷ x) (rest .positions ∙ ap (λ (p : ℕ). starts p ms) here)) })
-
-    go : Later → (d : Decoded) → decode s ≡ d → onDecoded i d (recordsIn n (suc i)) ≡ records ls → RecordsRead (suc n) size s ls
-    go ih cut d e = not-records 3 i ls e
-    go ih badKey d e = not-records 4 i ls e
-    go ih (decoded l r) d e = last ih l r d (recordsIn n (suc i) r) refl e
-
-pub records-count : (n i : ℕ) (s : List ℕ) (ls : List Labels) → recordsIn n i s ≡ records ls → length ls ≡ n
-records-count n i s ls e = records-read n i (length s) s ls (omega arith) e .count
-
-pub series-count : (p : ℕ) (ls : List Labels) (r : List ℕ) → length (seriesOf p ls r) ≡ length ls
-unfolding seriesOf
-series-count p [] r = refl
-series-count p (l ∷ ls) r = ap suc (series-count p ls (drop p r))
-
-series-bytes : (p : ℕ) (ls : List Labels) (r : List ℕ) → labelBytes (seriesOf p ls r) ≡ recordBytes ls
-unfolding seriesOf labelBytes recordBytes
-series-bytes p [] r = refl
-series-bytes p (l ∷ ls) r = ap (λ (x : List ℕ). encode l ++ x) (series-bytes p ls (drop p r))
-
-series-labels : (p : ℕ) (ls : List Labels) (r : List ℕ) → labelsOfAll (seriesOf p ls r) ≡ ls
-unfolding seriesOf
-series-labels p [] r = refl
-series-labels p (l ∷ ls) r = ap (λ (x : List Labels). l ∷ x) (series-labels p ls (drop p r))
-
--- taking on another side differs in that field alone
-
-abbrev pub onSide : ℕ → TakenVector → TakenVector
-onSide side (vector v) = vector v
-onSide side (faulty k other i) = faulty k side i
-
-cond-side : (b : Bool) (side : ℕ) (a c : TakenVector) → onSide side (cond b a c) ≡ cond b (onSide side a) (onSide side c)
-cond-side true side a c = refl
-cond-side false side a c = refl
-
-readings-side : (side other n : ℕ) (shape : Shape) (x : List ℕ) (o : Records) → onSide side (withReadings other n shape x o) ≡ withReadings side n shape x o
-readings-side side other n shape x (records ls) = cond-side (eqb (length x) (n * shape .points)) side _ _
-readings-side side other n shape x (badRecord k i) = refl
-
-pub take-side : (side other : ℕ) (s x : List ℕ) → takeVector side s x ≡ onSide side (takeVector other s x)
-unfolding takeVector
-take-side side other s x =
-    let n = twoBytesAt s 0 in
-    let shape : Shape = record { points = twoBytesAt s 2 } in
-    let good = leb n maxSeries && (leb (shape .points) maxPoints && eqb (length (drop 6 s)) (twoBytesAt s 4)) in
-    let sized = cond-side good side (withReadings other n shape x (recordsIn n 0 (drop 6 s))) (faulty 3 other 0) ∙ ap (λ (t : TakenVector). cond good t (faulty 3 side 0)) (readings-side side other n shape x (recordsIn n 0 (drop 6 s))) in
-    sym (cond-side (leb 6 (length s)) side (withSizes other n shape (twoBytesAt s 4) (drop 6 s) x) (faulty 3 other 0) ∙ ap (λ (t : TakenVector). cond (leb 6 (length s)) t (faulty 3 side 0)) sized)
-
--- a fault has 01's numbers; number 5 has the place 0
-
-pub data Fault (k i : ℕ) : Type 0 where
-  cutFault : k ≡ 3 → Fault k i
-  keyFault : k ≡ 4 → Fault k i
-  readingsFault : k ≡ 5 → i ≡ 0 → Fault k i
-
-fault-three : (side other k i j : ℕ) → faulty 3 side j ≡ faulty k other i → Fault k i
-fault-three side other k i j e = cutFault (let z : 3 ≡ k = cc in sym z)
-
-not-faulty : {X : Type 0} (v : Vector) (k side i : ℕ) → vector v ≡ faulty k side i → X
-not-faulty v k side i e = absurd (let z : _≡_ {A = ℕ} 0 1 = cc in omega arith)
-
-readings-fault : (side other n : ℕ) (shape : Shape) (s x : List ℕ) (k i : ℕ) (o : Records) → recordsIn n 0 s ≡ o → withReadings side n shape x o ≡ faulty k other i → Fault k i
-readings-fault side other n shape s x k i (records ls) f e = go (eqb (length x) (n * shape .points)) e
-  where
-    go : (b : Bool) → cond b (vector (record { shape = shape; series = seriesOf (shape .points) ls x })) (faulty 5 side 0) ≡ faulty k other i → Fault k i
-    go true e = not-faulty _ k other i e
-    go false e = readingsFault (let z : 5 ≡ k = cc in sym z) (let z : 0 ≡ i = cc in sym z)
-readings-fault side other n shape s x k i (badRecord m j) f e = go (bad-number n 0 s m j f)
-  where
-    same : m ≡ k
-    same = cc
-
-    go : RecordFault m → Fault k i
-    go (three h) = cutFault (sym same ∙ h)
-    go (four h) = keyFault (sym same ∙ h)
-
-pub take-fault : (side other : ℕ) (s x : List ℕ) (k i : ℕ) → takeVector side s x ≡ faulty k other i → Fault k i
-unfolding takeVector
-take-fault side other s x k i e = go (leb 6 (length s)) e
-  where
-    n : ℕ
-    n = twoBytesAt s 0
-
-    shape : Shape
-    shape = record { points = twoBytesAt s 2 }
-
-    sized : (b : Bool) → cond b (withReadings side n shape x (recordsIn n 0 (drop 6 s))) (faulty 3 side 0) ≡ faulty k other i → Fault k i
-    sized true e = readings-fault side other n shape (drop 6 s) x k i (recordsIn n 0 (drop 6 s)) refl e
-    sized false e = fault-three side other k i 0 e
-
-    go : (b : Bool) → cond b (withSizes side n shape (twoBytesAt s 4) (drop 6 s) x) (faulty 3 side 0) ≡ faulty k other i → Fault k i
-    go true e = sized (leb n maxSeries && (leb (shape .points) maxPoints && eqb (length (drop 6 s)) (twoBytesAt s 4))) e
-    go false e = fault-three side other k i 0 e
+-- the positions that are noted of records that are read
+read-positions : (size : ℕ) (ls : List Labels) (s : List ℕ) → length s ≤ size → ReadAs ls s → noted size (length ls) s ≡ starts (size - length s) ls
+unfolding noted ends
+read-positions size [] s h e = refl
+read-positions size (l ∷ ls) s h e =
+    let r = e .0 in
+    let len : length s ≡ length (encode l) + length r = ap length (decode-is s l r (e .1) .bytes) ∙ length-append (encode l) r in
+    let here : size - length r ≡ size - length s + length (encode l) = omega (arith, h, len) in
+    rw (e .1) (ap (λ (x : List ℕ). (size - length s) ∷ x) (read-positions size ls r (omega (arith, h, len)) (e .2) ∙ ap (λ (p : ℕ). starts p ls) here))
 
 -- the code's answer t, read back: what taking on a side gives
 
@@ -206,17 +67,17 @@ pub record Parts (array x w : List ℕ) (v : Vector) : Type 0 where
 
 parts-read : (n : ℕ) (shape : Shape) (s x : List ℕ) (ls : List Labels) → n ≤ maxSeries → shape .points ≤ maxPoints → recordsIn n 0 s ≡ records ls → length x ≡ n * shape .points → Parts s x (noted (length s) n s) (record { shape = shape; series = seriesOf (shape .points) ls x })
 parts-read n shape s x ls hn hp f h =
-    let read = records-read n 0 (length s) s ls (omega arith) f in
+    let read = records-read n 0 s ls f in
     let count : length (seriesOf (shape .points) ls x) ≡ n = series-count (shape .points) ls x ∙ read .count in
     let labels = series-labels (shape .points) ls x in
     let first : length s - length s ≡ 0 = omega arith in
     record {
       few = rw count hn;
       narrow = hp;
-      bytes = read .bytes ∙ sym (series-bytes (shape .points) ls x);
+      bytes = read-bytes ls s (read .reads) ∙ sym (series-bytes (shape .points) ls x);
       rows = rw count h;
       series = rw labels;
-      positions = read .positions ∙ rw (labels, first);
+      positions = ap (λ (m : ℕ). noted (length s) m s) (sym (read .count)) ∙ read-positions (length s) ls s (omega arith) (read .reads) ∙ rw (labels, first);
     }
 
 readings-parts : (side n : ℕ) (shape : Shape) (s x : List ℕ) (v : Vector) (o : Records) → n ≤ maxSeries → shape .points ≤ maxPoints → recordsIn n 0 s ≡ o → withReadings side n shape x o ≡ vector v → Parts s x (noted (length s) n s) v

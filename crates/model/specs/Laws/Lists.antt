@@ -41,6 +41,13 @@ module _ {A : Type 0} where
       (λ e. cc (keep-keep p q xs (a .1)))
       (λ e. cases (p x) (λ h. cc (a .0 h)) (λ h. cc (keep-keep p q xs (a .1))))
 
+  pub keep-swap : (p q : A → Bool) (xs : List A) → keep p (keep q xs) ≡ keep q (keep p xs)
+  keep-swap p q [] = refl
+  keep-swap p q (x ∷ xs) =
+      cases (p x)
+      (λ e. cases (q x) (λ f. cc (keep-swap p q xs)) (λ f. cc (keep-swap p q xs)))
+      (λ e. cases (q x) (λ f. cc (keep-swap p q xs)) (λ f. cc (keep-swap p q xs)))
+
   pub keep-cong : (p q : A → Bool) (xs : List A) → All (λ x. p x ≡ q x) xs → keep p xs ≡ keep q xs
   keep-cong p q [] a = refl
   keep-cong p q (x ∷ xs) a = rw (a .0, keep-cong p q xs (a .1))

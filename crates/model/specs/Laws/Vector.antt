@@ -2,41 +2,32 @@
 use Prim.Native.Nat.{ℕ, zero, suc, _+_, _*_, _/_, _%_, _≤_, _<_}
 use mathlib.Core.Path.{_≡_, refl, sym, ap, _∙_}
 use mathlib.Core.Bool.{Bool, true, false, cond, _&&_}
-use mathlib.Core.List.{List, [], _∷_, _++_, map}
+use mathlib.Core.List.{List, [], _∷_, _++_}
 use native.Mathlib.Omega.{arith}
 use lib.Dec.{leb, eqb}
 use lib.ListN.{length, getD, take, drop, length-append, length-drop, take-append-drop}
-use lib.Seq.{take-append-seam, drop-append-seam, length-take-le}
+use lib.Seq.{take-at, drop-at, length-take-le}
 use borrow.Author.Tests.{le-leb, leb-true, eqb-true, eq-eqb}
 use Rattle.model.specs.Limits.{maxSeries, maxPoints, maxTags, maxLabelBytes}
 use Rattle.model.specs.Lists.{All}
 use Rattle.model.specs.Labels.{Labels, Bytes, WellFormed}
 use Rattle.model.specs.Record.{Decoded, decoded, cut, badKey, decode, encode}
-use Rattle.model.specs.Vector.{Series, Shape, Vector, labelBytes, readingsOf, sizesOf, labelPart, vector, faulty, Records, records, badRecord, withRecord, onDecoded, recordsIn, seriesOf, withReadings, withSizes, twoBytesAt, takeVector, Readings, GoodSeries, Valid}
+use Rattle.model.specs.Vector.{Series, Shape, Vector, labelsOfAll, labelBytes, readingsOf, sizesOf, labelPart, vector, faulty, Records, records, badRecord, withRecord, onDecoded, recordsIn, seriesOf, withReadings, withSizes, twoBytesAt, takeVector, Readings, GoodSeries, Valid}
 use Rattle.model.specs.Laws.Booleans.{both-of}
 use Rattle.model.specs.Laws.Lists.{All-front, All-back, All-append}
 use Rattle.model.specs.Laws.Record.{decode-encode, decode-is, decode-well, good-encoded}
 
 -- an encoded vector is taken
 
-abbrev labelsIn : List Series → List Labels
-labelsIn ss = map (λ s. s .labels) ss
-
-records-again : (p i : ℕ) (ss : List Series) → All (GoodSeries p) ss → recordsIn (length ss) i (labelBytes ss) ≡ records (labelsIn ss)
+records-again : (p i : ℕ) (ss : List Series) → All (GoodSeries p) ss → recordsIn (length ss) i (labelBytes ss) ≡ records (labelsOfAll ss)
 unfolding recordsIn labelBytes
 records-again p i [] a = refl
 records-again p i (s ∷ ss) a = rw (decode-encode (s .labels) (labelBytes ss) (a .0 .few) (a .0 .labels .order), records-again p (suc i) ss (a .1))
 
-take-row : (p : ℕ) (x r : List ℕ) → length x ≡ p → take p (x ++ r) ≡ x
-take-row p x r e = rw (← e) (take-append-seam x r)
-
-drop-row : (p : ℕ) (x r : List ℕ) → length x ≡ p → drop p (x ++ r) ≡ r
-drop-row p x r e = rw (← e) (drop-append-seam x r)
-
-series-again : (p : ℕ) (ss : List Series) → All (GoodSeries p) ss → seriesOf p (labelsIn ss) (readingsOf ss) ≡ ss
+pub series-again : (p : ℕ) (ss : List Series) → All (GoodSeries p) ss → seriesOf p (labelsOfAll ss) (readingsOf ss) ≡ ss
 unfolding seriesOf readingsOf
 series-again p [] a = refl
-series-again p (s ∷ ss) a = rw (take-row p (s .row) (readingsOf ss) (a .0 .width), drop-row p (s .row) (readingsOf ss) (a .0 .width), series-again p ss (a .1))
+series-again p (s ∷ ss) a = rw (take-at (s .row) (readingsOf ss) p (a .0 .width), drop-at (s .row) (readingsOf ss) p (a .0 .width), series-again p ss (a .1))
 
 pub readings-length : (p : ℕ) (ss : List Series) → All (GoodSeries p) ss → length (readingsOf ss) ≡ length ss * p
 unfolding readingsOf
@@ -69,40 +60,53 @@ record GoodLabels (l : Labels) : Type 0 where
   well : WellFormed l
   few : length (l .tags) ≤ maxTags
 
-abbrev encodeAll : List Labels → List ℕ
-encodeAll [] = []
-encodeAll (l ∷ ls) = encode l ++ encodeAll ls
+-- records one after another
+unfoldable pub recordBytes : List Labels → List ℕ
+recordBytes [] = []
+recordBytes (l ∷ ls) = encode l ++ recordBytes ls
 
-record RecordsAre (n : ℕ) (s : List ℕ) (ls : List Labels) : Type 0 where
-  count : length ls ≡ n
-  good : All GoodLabels ls
-  bytes : s ≡ encodeAll ls
+-- bytes that are read as records, one after another, to their end
+abbrev pub ReadAs : List Labels → List ℕ → Type 0
+ReadAs [] s = s ≡ []
+ReadAs (l ∷ ls) s = (rest : List ℕ) × (decode s ≡ decoded l rest) × ReadAs ls rest
+
+pub record RecordsRead (n : ℕ) (s : List ℕ) (ls : List Labels) : Type 0 where
+  pub count : length ls ≡ n
+  pub reads : ReadAs ls s
 
 no-records : {X : Type 0} (n i : ℕ) (ls : List Labels) → badRecord n i ≡ records ls → X
 no-records n i ls e = absurd (let z : _≡_ {A = ℕ} 0 1 = cc in omega arith)
 
-records-are : (n i : ℕ) (s : List ℕ) (ls : List Labels) → Bytes s → recordsIn n i s ≡ records ls → RecordsAre n s ls
+pub records-read : (n i : ℕ) (s : List ℕ) (ls : List Labels) → recordsIn n i s ≡ records ls → RecordsRead n s ls
 unfolding recordsIn
-records-are zero i [] ls b e = let h : ls ≡ [] = cc in rw h (record { count = refl; good = tt; bytes = refl })
-records-are zero i (x ∷ s) ls b e = no-records 3 i ls e
-records-are (suc n) i s ls b e = go (records-are n (suc i)) (decode s) refl e
+records-read zero i [] ls e = let h : ls ≡ [] = cc in rw h (record { count = refl; reads = refl })
+records-read zero i (x ∷ s) ls e = no-records 3 i ls e
+records-read (suc n) i s ls e = go (records-read n (suc i)) (decode s) refl e
   where
     Later : Type 0
-    Later = (s : List ℕ) (ls : List Labels) → Bytes s → recordsIn n (suc i) s ≡ records ls → RecordsAre n s ls
+    Later = (s : List ℕ) (ls : List Labels) → recordsIn n (suc i) s ≡ records ls → RecordsRead n s ls
 
-    last : Later → (l : Labels) (r : List ℕ) → decode s ≡ decoded l r → (w : Records) → recordsIn n (suc i) r ≡ w → withRecord l w ≡ records ls → RecordsAre (suc n) s ls
+    last : Later → (l : Labels) (r : List ℕ) → decode s ≡ decoded l r → (w : Records) → recordsIn n (suc i) r ≡ w → withRecord l w ≡ records ls → RecordsRead (suc n) s ls
     last ih l r h (badRecord m j) g e = no-records m j ls e
     last ih l r h (records ms) g e =
-        let d = decode-is s l r h in
-        let well = decode-well s l r b h in
-        let rest = ih r ms (well .1) g in
+        let rest = ih r ms g in
         let hls : ls ≡ l ∷ ms = cc in
-        rw hls (record { count = ap suc (rest .count); good = (record { well = well .0; few = d .few }, rest .good); bytes = d .bytes ∙ ap (λ x. encode l ++ x) (rest .bytes) })
+        rw hls (record { count = ap suc (rest .count); reads = (r, h, rest .reads) })
 
-    go : Later → (d : Decoded) → decode s ≡ d → onDecoded i d (recordsIn n (suc i)) ≡ records ls → RecordsAre (suc n) s ls
+    go : Later → (d : Decoded) → decode s ≡ d → onDecoded i d (recordsIn n (suc i)) ≡ records ls → RecordsRead (suc n) s ls
     go ih cut h e = no-records 3 i ls e
     go ih badKey h e = no-records 4 i ls e
     go ih (decoded l r) h e = last ih l r h (recordsIn n (suc i) r) refl e
+
+pub read-bytes : (ls : List Labels) (s : List ℕ) → ReadAs ls s → s ≡ recordBytes ls
+unfolding recordBytes
+read-bytes [] s h = h
+read-bytes (l ∷ ls) s h = decode-is s l (h .0) (h .1) .bytes ∙ ap (λ x. encode l ++ x) (read-bytes ls (h .0) (h .2))
+
+read-good : (ls : List Labels) (s : List ℕ) → Bytes s → ReadAs ls s → All GoodLabels ls
+read-good [] s b h = tt
+read-good (l ∷ ls) s b h =
+    let well = decode-well s l (h .0) b (h .1) in (record { well = well .0; few = decode-is s l (h .0) (h .1) .few }, read-good ls (h .0) (well .1) (h .2))
 
 series-good : (p : ℕ) (ls : List Labels) (r : List ℕ) → All GoodLabels ls → Readings r → length r ≡ length ls * p → All (GoodSeries p) (seriesOf p ls r)
 unfolding seriesOf
@@ -114,13 +118,18 @@ series-good p (l ∷ ls) r a b e =
       series-good p ls (drop p r) (a .1) (All-back _ (take p r) (drop p r) split) (length-drop p r ∙ (omega (arith, e))),
     )
 
-pub series-length : (p : ℕ) (ls : List Labels) (r : List ℕ) → length (seriesOf p ls r) ≡ length ls
+pub series-count : (p : ℕ) (ls : List Labels) (r : List ℕ) → length (seriesOf p ls r) ≡ length ls
 unfolding seriesOf
-series-length p [] r = refl
-series-length p (l ∷ ls) r = ap suc (series-length p ls (drop p r))
+series-count p [] r = refl
+series-count p (l ∷ ls) r = ap suc (series-count p ls (drop p r))
 
-series-bytes : (p : ℕ) (ls : List Labels) (r : List ℕ) → labelBytes (seriesOf p ls r) ≡ encodeAll ls
-unfolding seriesOf labelBytes
+pub series-labels : (p : ℕ) (ls : List Labels) (r : List ℕ) → labelsOfAll (seriesOf p ls r) ≡ ls
+unfolding seriesOf
+series-labels p [] r = refl
+series-labels p (l ∷ ls) r = ap (λ x. l ∷ x) (series-labels p ls (drop p r))
+
+pub series-bytes : (p : ℕ) (ls : List Labels) (r : List ℕ) → labelBytes (seriesOf p ls r) ≡ recordBytes ls
+unfolding seriesOf labelBytes recordBytes
 series-bytes p [] r = refl
 series-bytes p (l ∷ ls) r = ap (λ x. encode l ++ x) (series-bytes p ls (drop p r))
 
@@ -201,16 +210,16 @@ module _ (side : ℕ) (s r : List ℕ) (v : Vector) (bytes : Bytes s) (words : R
   abbrev array : List ℕ
   array = drop 6 s
 
-  taken-last : 6 ≤ length s → n ≤ maxSeries → p ≤ maxPoints → length array ≡ size → (ls : List Labels) → RecordsAre n array ls → length r ≡ n * p
+  taken-last : 6 ≤ length s → n ≤ maxSeries → p ≤ maxPoints → length array ≡ size → (ls : List Labels) → RecordsRead n array ls → length r ≡ n * p
       → v ≡ record { shape = shape; series = seriesOf p ls r } → TakenIs s r v
   taken-last h6 hn hp ha ls o hr hv =
-      let count : length (seriesOf p ls r) ≡ n = series-length p ls r ∙ o .count in
+      let count : length (seriesOf p ls r) ≡ n = series-count p ls r ∙ o .count in
       let wide : length r ≡ length ls * p = rw (o .count) hr in
-      let labels : labelBytes (seriesOf p ls r) ≡ array = series-bytes p ls r ∙ sym (o .bytes) in
+      let labels : labelBytes (seriesOf p ls r) ≡ array = series-bytes p ls r ∙ sym (read-bytes ls array (o .reads)) in
       let small : length array ≤ maxLabelBytes = omega (arith, ha, byte-at s 4 bytes, byte-at s 5 bytes) in
       rw hv
       (record {
-        valid = record { few = rw count hn; points = hp; bytes = rw labels small; series = series-good p ls r (o .good) words wide };
+        valid = record { few = rw count hn; points = hp; bytes = rw labels small; series = series-good p ls r (read-good ls array (bytes-behind 6 s bytes) (o .reads)) words wide };
         labels = rw (label-part shape (seriesOf p ls r), count, labels, ha) (sizes-again s bytes h6);
         readings = sym (series-readings p ls r wide);
       })
@@ -222,7 +231,7 @@ module _ (side : ℕ) (s r : List ℕ) (v : Vector) (bytes : Bytes s) (words : R
       go : (t : Bool) → eqb (length r) (n * p) ≡ t → cond t (vector (record { shape = shape; series = seriesOf p ls r })) (faulty 5 side 0) ≡ vector v → TakenIs s r v
       go false ht e = not-faulty 5 side 0 v e
       go true ht e =
-          taken-last h6 hn hp ha ls (records-are n 0 array ls (bytes-behind 6 s bytes) h) (eqb-true (length r) (n * p) ht)
+          taken-last h6 hn hp ha ls (records-read n 0 array ls h) (eqb-true (length r) (n * p) ht)
           (sym (vector-is (record { shape = shape; series = seriesOf p ls r }) v e))
 
   taken-sizes : 6 ≤ length s → (t : Bool) → (leb n maxSeries && (leb p maxPoints && eqb (length array) size)) ≡ t

@@ -1,16 +1,17 @@
 -- Series of a key merged, by their rows in one array: into the last of them, and behind a leader. Assumes nothing.
 use Prim.Native.Nat.{ℕ, zero, suc, _+_, _*_, _<_}
 use mathlib.Core.Path.{_≡_, refl, sym, ap, _∙_}
-use mathlib.Core.Bool.{Bool, true, false, cond}
+use mathlib.Core.Bool.{Bool, true, false, cond, _||_}
 use mathlib.Core.Option.{Option, none, some}
 use mathlib.Core.List.{List, [], _∷_, _++_, map, append-assoc}
 use native.Mathlib.Omega.{arith}
-use lib.Dec.{eqb}
+use lib.Dec.{eqb, leb, ltb}
 use borrow.Author.Tests.{eqb-true}
 use lib.ListN.{length, getD, take, drop, length-append}
 use lib.Seq.{take-append-seam, drop-append-seam}
 use Rattle.model.specs.Lists.{cases, All}
-use Rattle.model.specs.Row.{merged}
+use Rattle.model.specs.Row.{overlaps, overwritten, merged}
+use Rattle.model.specs.Laws.Row.{overwritten-wide}
 use Rattle.model.specs.Labels.{Labels}
 use Rattle.model.specs.Query.{Side}
 use Rattle.model.specs.Vector.{Series, readingsOf}
@@ -18,7 +19,7 @@ use Rattle.semantics.specs.Places.{Place, Placed}
 use Rattle.semantics.specs.Rules as Rules
 use Rattle.semantics.specs.Rules.{Merged, one, withRow, mergedInto, onMerged, absorbed, earlierOnes, mergedIntoLast}
 use Rattle.plan.specs.Keys.{firstOf, lastFrom, lastOf, keyed}
-use Rattle.plan.specs.Merging.{rowAt, RowMerge, row, failedAt, onRow, mergeGroup, mergeLast}
+use Rattle.plan.specs.Merging.{rowAt, RowMerge, row, failedAt, onRow, mergeGroup, mergeLast, mergeLead}
 use Rattle.plan.specs.Laws.Common.{noSeries, zero-plus}
 
 -- the rows of series, from the place i on, stand in one array
@@ -247,3 +248,27 @@ merged-last allowance p rows side k ks bs e r y ys h =
     let lead : rowAt p rows j ≡ b .row = sym (ap (rowAt p rows) (zero-plus j)) ∙ row-at p rows 0 bs r j (omega (arith, l .within, e)) in
     rw (l .last, l .earlier, absorbed-group allowance p rows side k kept 0 (take j ks) (take j bs) b (length-take-level j ks bs e) (RowsAt-take p rows 0 j bs r), at, lead)
     (ap (λ n. mergedAs (record { side = side; number = n }) (b .labels) side (mergeGroup allowance p rows k 0 (take j ks) (b .row))) (zero-plus j))
+
+-- the row that merges come to is as wide as the row merged into
+abbrev pub WideAs : ℕ → RowMerge → Type 0
+WideAs w (row d) = length d ≡ w
+WideAs w (failedAt i) = Unit {0}
+
+module _ (allowance p : ℕ) (rows : List ℕ) (w : ℕ) where
+  group-wide : (g : ℕ) (groups : List ℕ) (i : ℕ) (d : List ℕ) → length d ≡ w → WideAs w (mergeGroup allowance p rows g i groups d)
+  unfolding mergeGroup merged
+  group-wide g [] i d h = h
+  group-wide g (x ∷ groups) i d h = go (λ e k. group-wide g groups (suc i) e k) (eqb x g) (leb (length d) 2 || ltb allowance (overlaps d (rowAt p rows i)))
+    where
+      go : ((e : List ℕ) → length e ≡ w → WideAs w (mergeGroup allowance p rows g (suc i) groups e)) → (b c : Bool) → WideAs w (cond b (onRow (cond c none (some (overwritten d (rowAt p rows i)))) (failedAt i) (mergeGroup allowance p rows g (suc i) groups)) (mergeGroup allowance p rows g (suc i) groups d))
+      go ih false c = ih d h
+      go ih true true = tt
+      go ih true false = ih (overwritten d (rowAt p rows i)) (overwritten-wide d (rowAt p rows i) ∙ h)
+
+  pub last-wide : (keys : List ℕ) (k : ℕ) → length (rowAt p rows (lastOf keys k)) ≡ w → WideAs w (mergeLast allowance p rows keys k)
+  unfolding mergeLast
+  last-wide keys k h = group-wide k (take (lastOf keys k) keys) 0 (rowAt p rows (lastOf keys k)) h
+
+  pub lead-wide : (leads : List ℕ) (o : ℕ) → length (rowAt p rows o) ≡ w → WideAs w (mergeLead allowance p rows leads o)
+  unfolding mergeLead
+  lead-wide leads o h = group-wide o (drop (suc o) leads) (suc o) (rowAt p rows o) h

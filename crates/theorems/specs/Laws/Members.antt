@@ -69,13 +69,6 @@ first-kept p x (y ∷ ys) h t = cases (p y) now (later (λ m. first-kept p x ys 
     later : (In x ys → First p ys) → p y ≡ false → First p (y ∷ ys)
     later ih e = let r = go ih e (List·Memᴰ·cases-cons h) in record { first = r .first; rest = r .rest; is = rw e (r .is); member = List·Memᴰ·tail (r .member); passes = r .passes }
 
-pub keep-swap : {A : Type 0} (p q : A → Bool) (xs : List A) → keep p (keep q xs) ≡ keep q (keep p xs)
-keep-swap p q [] = refl
-keep-swap p q (x ∷ xs) =
-    cases (p x)
-    (λ e. cases (q x) (λ f. cc (keep-swap p q xs)) (λ f. cc (keep-swap p q xs)))
-    (λ e. cases (q x) (λ f. cc (keep-swap p q xs)) (λ f. cc (keep-swap p q xs)))
-
 pub all-in : {A : Type 0} (P : A → Type 0) (x : A) (xs : List A) → All P xs → In x xs → P x
 all-in P x [] a h = absurd (List·Memᴰ·not-nil h)
 all-in P x (y ∷ ys) a h = go (all-in P x ys (a .1)) (List·Memᴰ·cases-cons h)
