@@ -4,12 +4,6 @@ use borrow.Author.Needs.{needs}
 use Rattle.set_rules.proofs.list_rows.Statement.{statement}
 use Rattle.set_rules.proofs.list_rows.Tie as tie
 
-list-right-requires : tie.Need-list-right-requires
-list-right-requires c κs =
-    let listed = c .before .before .before .before .before .before .before .before in
-    let pre = listed .before .before .before .before .before .before .before .before .pre in
-    (search needs, (search needs, (c .before .before .before .side-ends .ensures, noted-few _ _ _ _ _ _ _ (pre .0) (listed .list-left .ensures))))
-
 pub list-rows-spec : {M : Type 1} → statement M
 list-rows-spec =
     tie.close
@@ -18,7 +12,7 @@ list-rows-spec =
     (λ c. search needs)
     (λ c κs. search needs)
     (λ c. search needs)
-    list-right-requires
+    (λ c κs. (search needs, (search needs, (c .before .before .before .side-ends .ensures, search noted-few))))
     (λ c. search needs)
     (λ c. rows-added _ _ _ _ _ _ _ _ _ _ _ _ _ (c .before .before .before .before .before .before .before .before .if1 .taken) (c .before .before .before .before .before .before .before .before .before .before .before .list-left .ensures) (c .before .before .list-right .ensures))
     (λ c. search needs)

@@ -21,7 +21,7 @@ put-bytes-requires c κs = search left-room
 
 -- src/lib.rt:215:9
 same-length : tie.Need-same-length
-same-length c = search needs
+same-length c = c .before .out .given
 
 -- src/lib.rt:215:9
 returns : tie.Need-returns
@@ -37,7 +37,7 @@ put-bytes-requires-2 c κs = search right-room
 
 -- src/lib.rt:198:1
 same-length-2 : tie.Need-same-length-2
-same-length-2 c = search needs
+same-length-2 c = c .before .out2 .given
 
 -- src/lib.rt:198:1
 returns-2 : tie.Need-returns-2

@@ -32,7 +32,7 @@ shared-slice-read-put-record c = search needs
 
 -- src/lib.rt:238:9
 put-record-requires : tie.Need-put-record-requires Inv-loop μ-loop
-put-record-requires c κs = (search needs, (search needs, (search row-below, writing-room _ _ _ _ _ _ (c .before .before .before .loop .inv) (c .before .before .loop-test .taken))))
+put-record-requires c κs = let pre = c .before .before .before .before .before .before .before .before .before .before .pre in (pre .0, (pre .1 .0, (row-below _ _ _ (pre .1 .1 .0) (c .before .before .loop-test .taken), writing-room _ _ _ _ _ _ (c .before .before .before .loop .inv) (c .before .before .loop-test .taken))))
 
 -- src/lib.rt:239:9
 add-r : tie.Need-add-r Inv-loop μ-loop

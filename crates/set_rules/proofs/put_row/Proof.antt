@@ -31,9 +31,9 @@ put-row-spec =
     (λ c κs. search needs)
     (λ c κs. search needs)
     put-left-row-requires
-    (λ c. search needs)
+    (λ c. c .before .out .given)
     returns
     (λ c κs. search right-start)
     (λ c κs. search right-meets)
-    (λ c. search needs)
+    (λ c. c .before .out2 .given)
     (λ c. search right-is))

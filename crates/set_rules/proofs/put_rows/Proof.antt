@@ -56,7 +56,7 @@ part-put-row-end c = search row-within
 
 -- src/lib.rt:303:9
 put-row-requires : tie.Need-put-row-requires Inv-loop μ-loop
-put-row-requires c κs = (search part-wide, (search needs, (search needs, (search needs, search row-below))))
+put-row-requires c κs = let pre = c .before .before .before .before .before .before .before .before .before .before .before .pre in (search part-wide, (pre .0, (pre .1 .0, (pre .1 .1 .0, row-below _ _ _ (pre .1 .1 .1 .0) (c .before .before .loop-test .taken)))))
 
 -- src/lib.rt:314:9
 add-r : tie.Need-add-r Inv-loop μ-loop

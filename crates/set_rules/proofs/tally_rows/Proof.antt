@@ -32,7 +32,7 @@ shared-slice-read-row-size c = search needs
 
 -- src/lib.rt:191:33
 row-size-requires : tie.Need-row-size-requires Inv-loop μ-loop
-row-size-requires c κs = (search needs, (search needs, search row-below))
+row-size-requires c κs = let pre = c .before .before .before .before .before .before .before .before .pre in (pre .0, (pre .1 .0, row-below _ _ _ (pre .1 .1 .0) (c .before .loop-test .taken)))
 
 -- src/lib.rt:191:9
 tallied-requires : tie.Need-tallied-requires Inv-loop μ-loop
