@@ -17,7 +17,7 @@ use Rattle.join_rows.specs.Sides.{JoinLent}
 use Rattle.join_rows.specs.Codes.{sideOf, CodeIn}
 use Rattle.join_rows.specs.Written.{worked}
 use Rattle.join_rows.proofs.Rows.{row-wide}
-use Rattle.joins.specs.Readings.{leadsAt, mergesAt, codeReadings}
+use Rattle.join_readings.specs.Readings.{leadsAt, mergesAt, codeReadings}
 
 -- merges
 
