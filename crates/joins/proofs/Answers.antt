@@ -31,8 +31,8 @@ use Rattle.join_rows.specs.declared.Work.{Work}
 use Rattle.join_rows.specs.Sides.{JoinLent, sidesOf}
 use Rattle.join_rows.specs.Codes.{sideOf, CodeIn, rowLabels}
 use Rattle.join_plan.proofs.Planning.{two-overlaps}
-use Rattle.joins.specs.Records.{Records, RecordsIn}
-use Rattle.joins.specs.Readings.{mergesAt, codeReadings, JoinAsked}
+use Rattle.join_labels.specs.Records.{Records, RecordsIn}
+use Rattle.join_readings.specs.Readings.{mergesAt, codeReadings, JoinAsked}
 use Rattle.joins.specs.Joined.{WorkOf, pointsOf, AnswerRoom, AnswerPut, Answered}
 
 -- the records of codes

@@ -27,7 +27,7 @@ use Rattle.join_leads.proofs.Marking.{labels-long, labels-here}
 use Rattle.join_rows.specs.Sides.{JoinLent, sidesOf}
 use Rattle.join_rows.specs.Codes.{CodeIn}
 use Rattle.join_plan.proofs.Planning.{two-overlaps}
-use Rattle.joins.specs.Readings.{leadsAt, mergesAt}
+use Rattle.join_readings.specs.Readings.{leadsAt, mergesAt}
 
 -- lists
 

@@ -30,7 +30,7 @@ use Rattle.join_rows.specs.Codes.{sideOf}
 use Rattle.join_plan.specs.declared.Plan.{Plan}
 use Rattle.join_plan.specs.declared.Plan.the-variants.{Rows, Failed}
 use Rattle.join_plan.specs.Plans.{Planned}
-use Rattle.joins.specs.Readings.{CodesAsked, JoinAsked}
+use Rattle.join_readings.specs.Readings.{CodesAsked, JoinAsked}
 use Rattle.joins.specs.Joined.{pointsOf, Answered, RowsPlanned, oneTwice, Joined}
 use Rattle.joins.proofs.Codes.{Sound, rows-sound}
 

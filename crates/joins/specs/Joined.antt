@@ -24,7 +24,7 @@ use Rattle.join_leads.specs.Lent.{ListedBy}
 use Rattle.join_rows.specs.declared.Work.{Work}
 use Rattle.join_rows.specs.Sides.{JoinLent, sidesOf}
 use Rattle.join_rows.specs.Codes.{sideOf, rowLabels}
-use Rattle.joins.specs.Readings.{RowsPut}
+use Rattle.join_readings.specs.Readings.{RowsPut}
 
 -- the work is the one of a query with these lists
 pub record WorkOf (q : Query) (join skip : Names) (w : Work) : Type 0 where

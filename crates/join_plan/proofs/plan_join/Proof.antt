@@ -49,11 +49,10 @@ loop-again : tie.Need-loop-again Inv-loop μ-loop
 loop-again c =
     let planned = c .before .before .before .before .before .plan-place .ensures in
     let rec = c .before .before .before .before .before .before .before .before .«record» .ensures in
-    let part = c .before .before .before .before .before .before .before .before .before .if1 .taken in
     let more = c .before .before .before .before .before .before .before .before .before .before .before .loop-test .taken in
     let inv = c .before .before .before .before .before .before .before .before .before .before .before .before .loop .inv in
     let pre = c .before .before .before .before .before .before .before .before .before .before .before .before .before .before .before .before .before .before .before .before .before .before .before .before .pre in
-    planning-rows _ _ _ _ _ _ _ _ _ _ _ (pre .0) (pre .1 .0) _ _ _ inv more _ refl part _ rec _ _ planned _ (search needs)
+    planning-rows _ _ _ _ _ _ _ _ _ _ _ (pre .0) (pre .1 .0) _ _ _ inv more _ refl (search needs) _ rec _ _ planned _ (search needs)
 
 enum-known-kept : tie.Need-enum-known-kept Inv-loop μ-loop
 enum-known-kept c = search needs

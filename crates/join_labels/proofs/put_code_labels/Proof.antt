@@ -1,8 +1,8 @@
 -- `put_code_labels` meets its contract. Assumes nothing.
 use borrow.Author.Needs.{needs}
-use Rattle.joins.proofs.Records.{code-short, code-few, code-room, code-put}
-use Rattle.joins.proofs.put_code_labels.Statement.{statement}
-use Rattle.joins.proofs.put_code_labels.Tie as tie
+use Rattle.join_labels.proofs.Records.{code-short, code-few, code-room, code-put}
+use Rattle.join_labels.proofs.put_code_labels.Statement.{statement}
+use Rattle.join_labels.proofs.put_code_labels.Tie as tie
 
 record-requires : tie.Need-record-requires
 record-requires c κs = search needs

@@ -1,9 +1,9 @@
 -- `put_join_rows` meets its contract. Assumes nothing.
 use borrow.Author.Needs.{needs}
 use mathlib.Core.Path.{sym}
-use Rattle.joins.proofs.Rows.{front-long}
-use Rattle.joins.proofs.put_join_rows.Statement.{statement}
-use Rattle.joins.proofs.put_join_rows.Tie as tie
+use Rattle.join_readings.proofs.Rows.{front-long}
+use Rattle.join_readings.proofs.put_join_rows.Statement.{statement}
+use Rattle.join_readings.proofs.put_join_rows.Tie as tie
 
 array-borrow-prefix-leads : tie.Need-array-borrow-prefix-leads
 array-borrow-prefix-leads c = search needs

@@ -18,8 +18,8 @@ use Rattle.join_leads.proofs.Marking.{someone}
 use Rattle.join_rows.specs.declared.Work.{Work}
 use Rattle.join_rows.specs.Sides.{JoinLent}
 use Rattle.join_rows.specs.Codes.{CodeIn}
-use Rattle.joins.specs.Readings.{codeReadings, LeadsFor, CodeRow, CodeMerges, JoinAsked, RowsPut}
-use Rattle.joins.proofs.Widths.{readings-long}
+use Rattle.join_readings.specs.Readings.{codeReadings, LeadsFor, CodeRow, CodeMerges, JoinAsked, RowsPut}
+use Rattle.join_readings.proofs.Widths.{readings-long}
 
 -- the rows before n are written, and the leads are those of the place `marked`
 pub record RowsDone (w : Work) (join skip : Names) (p : ℕ) (ma mt mk mr a t k r ends list before leads out : List ℕ) (marked n : ℕ) : Type 0 where

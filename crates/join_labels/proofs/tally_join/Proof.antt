@@ -5,9 +5,9 @@ use lib.ListN.{length}
 use Rattle.labels.specs.Names.{namesOf}
 use Rattle.answers.proofs.Tallies.{Tallying}
 use Rattle.join_rows.specs.Codes.{rowLabels}
-use Rattle.joins.proofs.Records.{code-held, tally-begins, edited-room, edited-turn, edited-ends}
-use Rattle.joins.proofs.tally_join.Statement.{statement}
-use Rattle.joins.proofs.tally_join.Tie as tie
+use Rattle.join_labels.proofs.Records.{code-held, tally-begins, edited-room, edited-turn, edited-ends}
+use Rattle.join_labels.proofs.tally_join.Statement.{statement}
+use Rattle.join_labels.proofs.tally_join.Tie as tie
 
 abbrev Inv-loop : tie.InvT-loop
 Inv-loop many-array many-at array at list join skip naming t₀ r₀ t r = Tallying (rowLabels (namesOf join) (namesOf skip) naming many-array many-at array at) list r t

@@ -1,9 +1,9 @@
 -- `put_code_row` meets its contract. Assumes nothing.
 use borrow.Author.Needs.{needs}
 use Rattle.join_rows.proofs.Codes.{many-row-inside, one-row-inside}
-use Rattle.joins.proofs.Leaders.{code-end, single-code-row}
-use Rattle.joins.proofs.put_code_row.Statement.{statement}
-use Rattle.joins.proofs.put_code_row.Tie as tie
+use Rattle.join_readings.proofs.Leaders.{code-end, single-code-row}
+use Rattle.join_readings.proofs.put_code_row.Statement.{statement}
+use Rattle.join_readings.proofs.put_code_row.Tie as tie
 
 mul-c : tie.Need-mul-c
 mul-c c = search needs
@@ -30,11 +30,10 @@ same-length c = search needs
 returns : tie.Need-returns
 returns c =
     let made = c .before .before .single-row .ensures in
-    let same = c .before .before .before .before .if1 .taken in
     let last = c .before .before .before .before .before .side-last .ensures in
     let first = c .before .before .before .before .before .before .side-first .ensures in
     let pre = c .before .before .before .before .before .before .before .before .before .before .before .before .before .before .before .before .before .before .before .before .before .pre in
-    (pre .1 .1 .1 .1, single-code-row _ _ _ _ _ _ _ _ _ _ _ _ _ (pre .1 .1 .0) (pre .0) _ (pre .1 .0) _ _ first last same _ made)
+    (pre .1 .1 .1 .1, single-code-row _ _ _ _ _ _ _ _ _ _ _ _ _ (pre .1 .1 .0) (pre .0) _ (pre .1 .0) _ _ first last (search needs) _ made)
 
 put-led-row-requires : tie.Need-put-led-row-requires
 put-led-row-requires c κs =

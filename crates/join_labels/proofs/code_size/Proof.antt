@@ -1,8 +1,8 @@
 -- `code_size` meets its contract. Assumes nothing.
 use borrow.Author.Needs.{needs}
-use Rattle.joins.proofs.Records.{code-short, code-sized}
-use Rattle.joins.proofs.code_size.Statement.{statement}
-use Rattle.joins.proofs.code_size.Tie as tie
+use Rattle.join_labels.proofs.Records.{code-short, code-sized}
+use Rattle.join_labels.proofs.code_size.Statement.{statement}
+use Rattle.join_labels.proofs.code_size.Tie as tie
 
 record-requires : tie.Need-record-requires
 record-requires c κs = search needs

@@ -1,8 +1,8 @@
 -- `leads_for` meets its contract. Assumes nothing.
 use borrow.Author.Needs.{needs}
-use Rattle.joins.proofs.Leaders.{leads-kept, leads-marked, leads-long, place-formed}
-use Rattle.joins.proofs.leads_for.Statement.{statement}
-use Rattle.joins.proofs.leads_for.Tie as tie
+use Rattle.join_readings.proofs.Leaders.{leads-kept, leads-marked, leads-long, place-formed}
+use Rattle.join_readings.proofs.leads_for.Statement.{statement}
+use Rattle.join_readings.proofs.leads_for.Tie as tie
 
 returns : tie.Need-returns
 returns c = search leads-kept

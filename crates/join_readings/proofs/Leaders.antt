@@ -19,7 +19,7 @@ use Rattle.join_rows.specs.declared.Work.{Work}
 use Rattle.join_rows.specs.Sides.{JoinLent}
 use Rattle.join_rows.specs.Codes.{CodeIn}
 use Rattle.join_rows.specs.Written.{worked, leadRow, LeadMerges}
-use Rattle.joins.specs.Readings.{mergesAt, codeReadings, LeadsFor, CodeRow, CodeMerges}
+use Rattle.join_readings.specs.Readings.{mergesAt, codeReadings, LeadsFor, CodeRow, CodeMerges}
 
 -- `leads_for`
 

@@ -3,9 +3,9 @@ use borrow.Author.Needs.{needs}
 use Prim.Native.Nat.{_-_}
 use lib.ListN.{length}
 use Rattle.labels.specs.Names.{namesOf}
-use Rattle.joins.proofs.Rows.{RowsDone, rows-begin, rows-long, rows-put, leads-left, from-fits, to-fits, bytes-fit, part-within, part-lent, code-in, code-merges, rows-next, leads-long}
-use Rattle.joins.proofs.put_led_rows.Statement.{statement}
-use Rattle.joins.proofs.put_led_rows.Tie as tie
+use Rattle.join_readings.proofs.Rows.{RowsDone, rows-begin, rows-long, rows-put, leads-left, from-fits, to-fits, bytes-fit, part-within, part-lent, code-in, code-merges, rows-next, leads-long}
+use Rattle.join_readings.proofs.put_led_rows.Statement.{statement}
+use Rattle.join_readings.proofs.put_led_rows.Tie as tie
 
 abbrev Inv-loop : tie.InvT-loop
 Inv-loop w p many-array many-at many-keys many-rows array at keys rows join skip ends list leads₀ out₀ marked₀ i₀ leads out marked i =

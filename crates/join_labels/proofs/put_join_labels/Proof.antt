@@ -4,9 +4,9 @@ use Prim.Native.Nat.{_-_}
 use lib.ListN.{length}
 use Rattle.labels.specs.Names.{namesOf}
 use Rattle.join_rows.specs.Codes.{rowLabels}
-use Rattle.joins.proofs.Records.{Labelling, code-held, labels-start, label-room, labels-turn, labels-end, labels-long}
-use Rattle.joins.proofs.put_join_labels.Statement.{statement}
-use Rattle.joins.proofs.put_join_labels.Tie as tie
+use Rattle.join_labels.proofs.Records.{Labelling, code-held, labels-start, label-room, labels-turn, labels-end, labels-long}
+use Rattle.join_labels.proofs.put_join_labels.Statement.{statement}
+use Rattle.join_labels.proofs.put_join_labels.Tie as tie
 
 abbrev Inv-loop : tie.InvT-loop
 Inv-loop many-array many-at array at list join skip naming out₀ o₀ r₀ out o r = Labelling (rowLabels (namesOf join) (namesOf skip) naming many-array many-at array at) list out₀ r out o

@@ -16,7 +16,7 @@ use Rattle.join_rows.specs.Sides.{JoinLent}
 use Rattle.join_rows.specs.Codes.{sideOf, CodeIn}
 use Rattle.join_rows.specs.Written.{worked}
 use Rattle.join_rows.proofs.Rows.{row-wide}
-use Rattle.joins.specs.Readings.{leadsAt, mergesAt, codeReadings}
+use Rattle.join_readings.specs.Readings.{leadsAt, mergesAt, codeReadings}
 
 worked-long : (w : Work) (p : ℕ) (many one : List ℕ) → length many ≡ p → length one ≡ p → length (worked w many one) ≡ p
 worked-long w p many one hm ho = go (w .left)

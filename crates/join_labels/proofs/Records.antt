@@ -29,7 +29,7 @@ use Rattle.answers.proofs.Tallies.{Tallying, tally-starts, tally-room, tally-tu
 use Rattle.answers.proofs.Writing.{Writing, writing-starts, writing-room, writing-turn, writing-length, writing-ends, writing-count}
 use Rattle.join_rows.specs.Codes.{rowLabels}
 use Rattle.join_rows.proofs.Codes.{record-short, labels-are, few-edited, room-edited}
-use Rattle.joins.specs.Records.{CodeRecords, RecordsIn, SizedEdited, LabelRoom, LabelsPut}
+use Rattle.join_labels.specs.Records.{CodeRecords, RecordsIn, SizedEdited, LabelRoom, LabelsPut}
 
 -- the name of an edited record is a name
 named : (naming : Naming) (many source : List ℕ) → WellFormed (labelsOf many) → WellFormed (labelsOf source) → length (nameOf naming many source) ≤ 255

@@ -2,9 +2,9 @@
 use borrow.Author.Needs.{needs}
 use mathlib.Core.Path.{refl}
 use Rattle.join_rows.proofs.Codes.{many-row-inside, many-row-wide}
-use Rattle.joins.proofs.Leaders.{lead-inside, leads-held, lead-merges, code-row}
-use Rattle.joins.proofs.put_led_row.Statement.{statement}
-use Rattle.joins.proofs.put_led_row.Tie as tie
+use Rattle.join_readings.proofs.Leaders.{lead-inside, leads-held, lead-merges, code-row}
+use Rattle.join_readings.proofs.put_led_row.Statement.{statement}
+use Rattle.join_readings.proofs.put_led_row.Tie as tie
 
 leads-for-requires : tie.Need-leads-for-requires
 leads-for-requires c κs =
