@@ -1,0 +1,18 @@
+-- Where a record that was read starts and ends. Assumes nothing.
+use Prim.Native.Nat.{ℕ, _≤_}
+use mathlib.Core.Path.{_≡_}
+use mathlib.Core.List.{List}
+use native.Mathlib.Omega.{arith}
+use lib.ListN.{length, drop}
+use Rattle.model.specs.Record.{decode}
+use Rattle.metric_name.specs.Records.{recordOf}
+use Rattle.metric_name.specs.Lenient.{record-found}
+use Rattle.metric_name.specs.declared.Record.{Record}
+use Rattle.metric_name.specs.declared.Record.the-variants.{Ok}
+
+module _ (s : List ℕ) (at next : ℕ) (x : Record) (read : x ≡ recordOf (length s) (decode (drop at s))) (e : x ≡ Ok next) where
+  pub found-order : at ≤ next
+  found-order = omega (arith, record-found s at next x read e .order)
+
+  pub found-within : next ≤ length s
+  found-within = record-found s at next x read e .within
