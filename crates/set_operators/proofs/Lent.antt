@@ -1,5 +1,5 @@
 -- Both sides of an operator as they are lent, with and without the fallback. Assumes nothing.
-use Prim.Native.Nat.{ℕ, _≤_}
+use Prim.Native.Nat.{ℕ, _≤_, _<_}
 use mathlib.Core.Path.{_≡_, sym, _∙_}
 use mathlib.Core.Bool.{Bool, true, false}
 use mathlib.Core.List.{List}
@@ -23,10 +23,11 @@ bare-two array at h =
     impossible : eqb (length at) 2 ≡ false → ⊥
     impossible e = let z : false ≡ true = scalar-not array at (eqb-false (length at) 2 e) ∙ h in let o : _≡_ {A = ℕ} 0 1 = cc in omega arith
 
-module _ {p : ℕ} {larray lat lkeys left array at keys rows : List ℕ} (l : LentSide p larray lat lkeys left) (r : LentSide p array at keys rows) (h : p ≤ maxPoints) where
-  pub never-falls : {falls : Bool} → falls ≡ false → BothLent falls p larray lat lkeys left array at keys rows
-  never-falls n = record { leftSide = l; rightSide = r; points = h; some = λ e. absurd (let o : _≡_ {A = ℕ} 0 1 = cc in omega arith) }
+-- nothing is asked of the right side where left series do not fall back to it
+pub no-fallback : (n : ℕ) → false ≡ true → 0 < n
+no-fallback n e = absurd (let o : _≡_ {A = ℕ} 0 1 = cc in omega arith)
 
+module _ {p : ℕ} {larray lat lkeys left array at keys rows : List ℕ} (l : LentSide p larray lat lkeys left) (r : LentSide p array at keys rows) (h : p ≤ maxPoints) where
   module _ {falls : Bool} (e : falls ≡ bareSide (labelsIn array at)) where
     pub falls-bare : BothLent falls p larray lat lkeys left array at keys rows
     falls-bare = record { leftSide = l; rightSide = r; points = h; some = λ t. omega (arith, bare-two array at (sym e ∙ t), r .count) }

@@ -1,5 +1,5 @@
 -- `binary_op_unless` meets its contract. Assumes nothing.
-use Rattle.set_operators.proofs.Lent.{never-falls}
+use Rattle.set_operators.proofs.Lent.{no-fallback}
 use borrow.Author.Needs.{needs}
 use Rattle.set_operators.proofs.binary_op_unless.Statement.{statement}
 use Rattle.set_operators.proofs.binary_op_unless.Tie as tie
@@ -7,7 +7,7 @@ use Rattle.set_operators.proofs.binary_op_unless.Tie as tie
 run-set-requires : tie.Need-run-set-requires
 run-set-requires c κs =
     let pre = c .before .before .before .before .before .before .before .before .before .before .before .before .pre in
-    never-falls (pre .0) (pre .1 .0) (pre .1 .1) cc
+    record { leftSide = pre .0; rightSide = pre .1 .0; points = pre .1 .1; some = no-fallback _ }
 
 same-length : tie.Need-same-length
 same-length c = c .before .before .before .labels .given
