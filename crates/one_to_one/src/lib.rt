@@ -2,7 +2,7 @@
 use answers::Outcome;
 use answers::Room;
 use operator::Operator;
-use pairs::Checked;
+use pair_checks::Checked;
 use query::Query;
 ghost use mathlib.Core.Path.{_≡_};
 ghost use Prim.Native.Nat.{_+_, _*_, _≤_, _<_};
@@ -16,10 +16,14 @@ ghost use Rattle.answers.specs.Outcomes.{startingWith, Ran};
 ghost use Rattle.answers.specs.Tallies.{recordsOf};
 ghost use Rattle.merging.specs.Groups.{Ends};
 ghost use Rattle.key_ends.specs.Codes.{CodeOf, PairEnds, leftFirst, leftLast};
-ghost use Rattle.pairs.specs.Edits.{queryBy, pairLabels};
-ghost use Rattle.pairs.specs.Pairing.{sidesOf, PairSides, LeftLabels};
+ghost use Rattle.pair_labels.specs.Edits.{queryBy, pairLabels};
+ghost use Rattle.pair_labels.specs.Records.{LeftLabels};
+ghost use Rattle.pairs.specs.Pairing.{sidesOf, PairSides};
 ghost use Rattle.one_to_one.specs.Rows.{SideMerged, sideRow, pairedRow, Paired, PairedRows};
 ghost use Rattle.one_to_one.specs.Answers.{answerOf, oneToOne, Listed, Clear, PairsPut};
+
+// The overlapping places that a merge allows.
+const ALLOWED_OVERLAPS: usize = 2;
 
 // The operator on a left row and the right side's row of a key, whose series are merged in a work row.
 fn with_merged_right(
@@ -248,10 +252,10 @@ fn put_pairs(
         ends,
         list,
         p,
-        pairs::ALLOWED_OVERLAPS,
+        ALLOWED_OVERLAPS,
         out,
     );
-    pairs::put_pair_labels(array, at, list, q, names, labels)
+    pair_labels::put_pair_labels(array, at, list, q, names, labels)
 }
 
 // The answer of left places, written where it fits.
@@ -273,7 +277,7 @@ fn answer_pairs(
     requires { ⌜ Listed p (now array) (now at) (now lkeys) (now left) (now rkeys) (now right) (now ends) (now list) ⌝ }
     ensures { λ r. ⌜ Ran (answerOf (queryBy (now (names .entry)) q) (length (now (labels .entry))) (length (now (out .entry))) (sidesOf p (now (left .entry)) (now (lkeys .entry)) (now (right .entry)) (now (rkeys .entry))) (labelsIn (now (array .entry)) (now (at .entry))) (now (list .entry))) (now (labels .entry)) (now (out .entry)) (now (labels .exit)) (now (out .exit)) r ⌝ }
 {
-    let t = pairs::tally_pairs(array, at, list, q, names);
+    let t = pair_labels::tally_pairs(array, at, list, q, names);
     match answers::room_for(list.len(), p, t, labels.len(), out.len()) {
         Room::TooLarge => Outcome::TooLarge,
         Room::TooLong => Outcome::TooLong,
@@ -360,7 +364,7 @@ fn run_noted(
     requires { ⌜ length (now at) ≡ length (now lkeys) + 1 ⌝ }
     ensures { λ r. ⌜ Ran (oneToOne (queryBy (now (names .entry)) q) (length (now (labels .entry))) (length (now (out .entry))) (sidesOf p (now (left .entry)) (now (lkeys .entry)) (now (right .entry)) (now (rkeys .entry))) (labelsIn (now (array .entry)) (now (at .entry)))) (now (labels .entry)) (now (out .entry)) (now (labels .exit)) (now (out .exit)) r ⌝ }
 {
-    match pairs::check_pairs(left, lkeys, right, rkeys, ends, p, pairs::ALLOWED_OVERLAPS) {
+    match pair_checks::check_pairs(left, lkeys, right, rkeys, ends, p, ALLOWED_OVERLAPS) {
         Checked::Left { kept, failed } => Outcome::LeftTwice { kept, failed },
         Checked::Right { kept, failed } => Outcome::RightTwice { kept, failed },
         Checked::Fine => answer_all(

@@ -1,7 +1,7 @@
 -- `pair_row` meets its contract. Assumes nothing.
 use mathlib.Core.Path.{sym}
+use lib.Seq.{length-take-le}
 use Rattle.key_ends.specs.Codes.{right-ends}
-use Rattle.pairs.proofs.Checks.{part-wide}
 use Rattle.one_to_one.proofs.Rows.{several-coded, coded-room, coded-wide, coded-single}
 use borrow.Author.Needs.{needs}
 use Rattle.one_to_one.proofs.pair_row.Statement.{statement}
@@ -22,7 +22,7 @@ pair-row-spec =
     (λ c. search needs)
     (λ c. search coded-single)
     (λ c. search needs)
-    (λ c. part-wide _ _ (search needs))
-    (λ c κs. (search needs, (search needs, (search needs, (search several-coded, sym (part-wide _ _ (search needs)))))))
+    (λ c. sym (length-take-le _ _ (search needs)))
+    (λ c κs. (search needs, (search needs, (search needs, (search several-coded, length-take-le _ _ (search needs))))))
     (λ c. search needs)
     (λ c. search needs))

@@ -1,6 +1,6 @@
 -- `with_right` meets its contract. Assumes nothing.
 use mathlib.Core.Path.{sym}
-use Rattle.pairs.proofs.Checks.{part-wide}
+use lib.Seq.{length-take-le}
 use Rattle.one_to_one.proofs.Rows.{side-room, side-wide, with-single-right}
 use borrow.Author.Needs.{needs}
 use Rattle.one_to_one.proofs.with_right.Statement.{statement}
@@ -15,7 +15,7 @@ with-right-spec =
     (λ c. search needs)
     (λ c. search with-single-right)
     (λ c. search needs)
-    (λ c. part-wide _ _ (search needs))
-    (λ c κs. (search needs, (search needs, (search needs, (search needs, sym (part-wide _ _ (search needs)))))))
+    (λ c. sym (length-take-le _ _ (search needs)))
+    (λ c κs. (search needs, (search needs, (search needs, (search needs, length-take-le _ _ (search needs))))))
     (λ c. search needs)
     (λ c. search needs))
