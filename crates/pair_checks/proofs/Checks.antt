@@ -1,21 +1,20 @@
 -- The merges of the sides of a pair. Assumes nothing.
 use Prim.Native.Nat.{ℕ, suc, _+_, _-_, _*_, _≤_, _<_}
 use mathlib.Core.Path.{_≡_, refl, sym, ap, _∙_}
-use mathlib.Core.Bool.{Bool, true, false, not, _&&_, cond}
+use mathlib.Core.Bool.{Bool, true, false}
 use mathlib.Core.Option.{Option, none, some}
-use mathlib.Core.List.{List, [], _∷_}
+use mathlib.Core.List.{List}
 use native.Mathlib.Numerals.{add-one}
 use native.Mathlib.Omega.{arith}
-use lib.Dec.{eqb, ltb}
+use lib.Dec.{ltb}
 use lib.ListN.{length, getD, take, drop, length-drop, drop-of-length-le}
 use lib.Seq.{drop-cons, length-take-le}
-use borrow.Author.Tests.{eq-eqb, ne-eqb, eqb-true, ltb-true, ltb-false, not-true}
+use borrow.Author.Tests.{ltb-false}
 use Rattle.model.specs.Row.{overwritten, merged}
 use Rattle.model.specs.Query as Model
-use Rattle.model.specs.Laws.Booleans.{both-of}
 use Rattle.semantics.specs.Events.{Duplicate}
-use Rattle.key_ends.specs.Codes.{leftFirst, leftLast, rightFirst, rightLast, CodeOf, left-first, left-last, right-first, right-last}
-use Rattle.plan.specs.Keys.{dropped, firstOf, lastOf}
+use Rattle.key_ends.specs.Codes.{leftLast, rightLast, CodeOf, left-last, right-last}
+use Rattle.plan.specs.Keys.{firstOf, lastOf}
 use Rattle.plan.specs.Merging.{RowMerge, row, failedAt, rowAt, mergeLast, clash}
 use Rattle.plan.specs.Conclude.{orElse}
 use Rattle.plan.specs.Pairs.{Sides, isPair, pairClash, pairsClash}

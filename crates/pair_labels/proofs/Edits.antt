@@ -1,9 +1,8 @@
 -- `keeps_name`, and the edited record: the tags of the key, and the name where it is kept. Assumes nothing.
 use Prim.Native.Nat.{ℕ, _+_, _≤_}
 use mathlib.Core.Path.{_≡_, refl, sym, ap, _∙_}
-use mathlib.Core.Bool.{Bool, true, false, not, _&&_, _||_, cond}
+use mathlib.Core.Bool.{Bool, true, false, not, _&&_, cond}
 use mathlib.Core.List.{List, [], _∷_}
-use native.Mathlib.Omega.{arith}
 use lib.ListN.{length}
 use Rattle.model.specs.Lists.{cases, keep}
 use Rattle.model.specs.Labels.{Tag, Labels, sameBytes, below, nameLabel, mayFollow, ascending}

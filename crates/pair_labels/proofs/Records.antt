@@ -1,17 +1,16 @@
 -- The edited records of rows: tallied, and written one behind another. Assumes nothing.
-use Prim.Native.Nat.{ℕ, zero, suc, _+_, _-_, _≤_, _<_}
+use Prim.Native.Nat.{ℕ, _+_, _≤_, _<_}
 use mathlib.Core.Path.{_≡_, refl, sym, ap, _∙_}
 use mathlib.Core.List.{List, [], _∷_, _++_}
 use native.Mathlib.Omega.{arith}
-use lib.ListN.{length, getD, take, drop, length-take, length-drop, length-append}
-use Rattle.model.specs.Limits.{maxSeries}
+use lib.ListN.{length, getD, length-take, length-drop, length-append}
 use Rattle.model.specs.Labels.{Labels}
 use Rattle.model.specs.Record.{Field, short, field, readField, onField, encodeField, encodeTags, encode}
 use Rattle.model.specs.Query as Model
 use Rattle.model.specs.Laws.Record.{field-read}
 use Rattle.metric_name.specs.Lenient.{tagsUpTo, tagsCounted, labelsOf}
 use Rattle.label_edits.specs.Written.{Put}
-use Rattle.label_edits.specs.Edited.{kept, Sized}
+use Rattle.label_edits.specs.Edited.{Sized}
 use Rattle.label_edits.specs.declared.Size.{Size}
 use Rattle.label_edits.proofs.Sizes.{length-labels, tags-short, kept-short}
 use Rattle.semantics.specs.Binop.{adjustBinaryOpTags}
@@ -19,8 +18,8 @@ use Rattle.plan.specs.Pairs.{noLabels}
 use Rattle.timeseries.specs.Sides.{recordAt, labelsIn}
 use Rattle.timeseries.specs.SideLaws.{labels-at}
 use Rattle.answers.specs.declared.Tally.{Tally}
-use Rattle.answers.specs.Tallies.{mostOfRecord, mostBytes, noTally, withSize, recordsOf, TallyOf}
-use Rattle.answers.proofs.Tallies.{Tallying, tally-starts, tally-room, tally-turn, tally-ends}
+use Rattle.answers.specs.Tallies.{mostOfRecord, mostBytes, noTally, withSize, recordsOf}
+use Rattle.answers.proofs.Tallies.{Tallying, tally-starts, tally-room, tally-turn}
 use Rattle.answers.proofs.Writing.{Writing, writing-starts, writing-room, writing-turn, writing-ends, writing-count}
 use Rattle.pair_labels.specs.Edits.{keepsName, InOrder, pairLabels}
 use Rattle.pair_labels.specs.Records.{LeftLabels, PlacesIn, LabelsPut}

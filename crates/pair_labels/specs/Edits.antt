@@ -1,7 +1,7 @@
 -- The left labels of a pair, edited: what their record keeps. Assumes nothing.
 use Prim.Native.Nat.{ℕ}
 use mathlib.Core.Path.{_≡_}
-use mathlib.Core.Bool.{Bool, true, false, not, _&&_, _||_}
+use mathlib.Core.Bool.{Bool, true, not, _&&_, _||_}
 use mathlib.Core.List.{List, []}
 use lib.ListN.{getD}
 use Rattle.model.specs.Labels.{Labels, nameLabel, ascending}

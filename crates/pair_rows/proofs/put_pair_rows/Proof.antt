@@ -3,11 +3,11 @@ use Prim.Native.Nat.{_-_}
 use lib.ListN.{length}
 use Rattle.answers.proofs.Rows.{RowsWriting, row-within, rows-length, rows-end}
 use Rattle.pairs.specs.Pairing.{sidesOf}
-use Rattle.one_to_one.specs.Rows.{pairedRow}
-use Rattle.one_to_one.proofs.Parts.{from-fits, to-fits, bytes-fit, listed-in, listed-fits, listed-code, parts-start, part-paired, parts-turn}
+use Rattle.pair_rows.specs.Rows.{pairedRow}
+use Rattle.pair_rows.proofs.Parts.{from-fits, to-fits, bytes-fit, listed-in, listed-fits, listed-code, parts-start, part-paired, parts-turn}
 use borrow.Author.Needs.{needs}
-use Rattle.one_to_one.proofs.put_pair_rows.Statement.{statement}
-use Rattle.one_to_one.proofs.put_pair_rows.Tie as tie
+use Rattle.pair_rows.proofs.put_pair_rows.Statement.{statement}
+use Rattle.pair_rows.proofs.put_pair_rows.Tie as tie
 
 abbrev Inv-loop : tie.InvT-loop
 Inv-loop op bool left lkeys right rkeys ends list p allowance out₀ r₀ out r = RowsWriting (pairedRow op bool allowance (sidesOf p left lkeys right rkeys)) p list out₀ r out

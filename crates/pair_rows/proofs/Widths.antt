@@ -12,7 +12,7 @@ use Rattle.plan.specs.Laws.Merging.{WideAs, last-wide}
 use Rattle.merging.specs.Laws.{last-within}
 use Rattle.answers.proofs.Rows.{row-in}
 use Rattle.pairs.specs.Pairing.{failureOf}
-use Rattle.one_to_one.specs.Rows.{SideMerged, sideRow}
+use Rattle.pair_rows.specs.Rows.{SideMerged, sideRow}
 
 module _ (allowance p : ℕ) (rows : List ℕ) (g : ℕ) where
   pub merged-wide : (keys : List ℕ) → SideMerged allowance p rows keys g → length (sideRow allowance p rows keys g) ≡ p

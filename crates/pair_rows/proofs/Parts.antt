@@ -15,8 +15,8 @@ use Rattle.model.specs.Laws.Row.{zip-wide}
 use Rattle.answers.proofs.Rows.{RowsWriting, rows-start, row-within, rows-turn}
 use Rattle.key_ends.specs.Codes.{CodeOf, PairEnds, code-at}
 use Rattle.pairs.specs.Pairing.{sidesOf}
-use Rattle.one_to_one.specs.Rows.{sideRow, pairedRow, Paired, PairedRows}
-use Rattle.one_to_one.proofs.Widths.{merged-wide}
+use Rattle.pair_rows.specs.Rows.{sideRow, pairedRow, Paired, PairedRows}
+use Rattle.pair_rows.proofs.Widths.{merged-wide}
 
 -- row r begins and ends at numbers of one word
 

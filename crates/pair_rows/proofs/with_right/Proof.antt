@@ -1,10 +1,10 @@
 -- `with_right` meets its contract. Assumes nothing.
 use mathlib.Core.Path.{sym}
 use lib.Seq.{length-take-le}
-use Rattle.one_to_one.proofs.Rows.{side-room, side-wide, with-single-right}
+use Rattle.pair_rows.proofs.Rows.{side-room, side-wide, with-single-right}
 use borrow.Author.Needs.{needs}
-use Rattle.one_to_one.proofs.with_right.Statement.{statement}
-use Rattle.one_to_one.proofs.with_right.Tie as tie
+use Rattle.pair_rows.proofs.with_right.Statement.{statement}
+use Rattle.pair_rows.proofs.with_right.Tie as tie
 
 pub with-right-spec : {M : Type 1} → statement M
 with-right-spec =

@@ -2,10 +2,10 @@
 use mathlib.Core.Path.{sym}
 use lib.Seq.{length-take-le}
 use Rattle.key_ends.specs.Codes.{right-ends}
-use Rattle.one_to_one.proofs.Rows.{several-coded, coded-room, coded-wide, coded-single}
+use Rattle.pair_rows.proofs.Rows.{several-coded, coded-room, coded-wide, coded-single}
 use borrow.Author.Needs.{needs}
-use Rattle.one_to_one.proofs.pair_row.Statement.{statement}
-use Rattle.one_to_one.proofs.pair_row.Tie as tie
+use Rattle.pair_rows.proofs.pair_row.Statement.{statement}
+use Rattle.pair_rows.proofs.pair_row.Tie as tie
 
 pub pair-row-spec : {M : Type 1} → statement M
 pair-row-spec =

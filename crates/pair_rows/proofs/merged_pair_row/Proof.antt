@@ -1,9 +1,9 @@
 -- `merged_pair_row` meets its contract. Assumes nothing.
 use Rattle.key_ends.specs.Codes.{left-ends, right-ends}
-use Rattle.one_to_one.proofs.Rows.{code-several, work-room, work-merges, work-merged, with-merged-left}
+use Rattle.pair_rows.proofs.Rows.{code-several, work-room, work-merges, work-merged, with-merged-left}
 use borrow.Author.Needs.{needs}
-use Rattle.one_to_one.proofs.merged_pair_row.Statement.{statement}
-use Rattle.one_to_one.proofs.merged_pair_row.Tie as tie
+use Rattle.pair_rows.proofs.merged_pair_row.Statement.{statement}
+use Rattle.pair_rows.proofs.merged_pair_row.Tie as tie
 
 pub merged-pair-row-spec : {M : Type 1} → statement M
 merged-pair-row-spec =

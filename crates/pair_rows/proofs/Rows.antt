@@ -2,7 +2,7 @@
 use Prim.Native.Nat.{ℕ, suc, _+_, _-_, _*_, _≤_, _<_}
 use mathlib.Core.Path.{_≡_, refl, ap, _∙_}
 use mathlib.Core.Bool.{Bool, true, false, cond, _||_}
-use mathlib.Core.Option.{Option, none, some}
+use mathlib.Core.Option.{none, some}
 use mathlib.Core.List.{List}
 use native.Mathlib.Omega.{arith}
 use lib.Dec.{leb, ltb}
@@ -19,7 +19,7 @@ use Rattle.merging.specs.Laws.{single-row, first-last, ends-within, several}
 use Rattle.answers.proofs.Rows.{row-in}
 use Rattle.key_ends.specs.Codes.{leftFirst, leftLast, CodeOf, left-ends}
 use Rattle.pairs.specs.Pairing.{failureOf}
-use Rattle.one_to_one.specs.Rows.{SideMerged, sideRow}
+use Rattle.pair_rows.specs.Rows.{SideMerged, sideRow}
 
 module _ (allowance p : ℕ) (rows keys : List ℕ) (k : ℕ) (s : SideMerged allowance p rows keys k) where
   -- a side of one series: its own row

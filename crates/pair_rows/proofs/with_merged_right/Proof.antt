@@ -1,8 +1,8 @@
 -- `with_merged_right` meets its contract. Assumes nothing.
-use Rattle.one_to_one.proofs.Rows.{work-room, work-merges, work-merged, with-merged-right}
+use Rattle.pair_rows.proofs.Rows.{work-room, work-merges, work-merged, with-merged-right}
 use borrow.Author.Needs.{needs}
-use Rattle.one_to_one.proofs.with_merged_right.Statement.{statement}
-use Rattle.one_to_one.proofs.with_merged_right.Tie as tie
+use Rattle.pair_rows.proofs.with_merged_right.Statement.{statement}
+use Rattle.pair_rows.proofs.with_merged_right.Tie as tie
 
 pub with-merged-right-spec : {M : Type 1} → statement M
 with-merged-right-spec =
