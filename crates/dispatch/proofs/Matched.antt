@@ -29,7 +29,7 @@ use Rattle.joins.specs.Joined.{WorkOf, Joined}
 use Rattle.timeseries.specs.Sides.{labelsIn}
 use Rattle.answers.specs.declared.Outcome.{Outcome}
 use Rattle.answers.specs.Outcomes.{Ran}
-use Rattle.pairs.specs.Edits.{queryBy}
+use Rattle.pair_labels.specs.Edits.{queryBy}
 use Rattle.pairs.specs.Pairing.{sidesOf}
 use Rattle.one_to_one.specs.Answers.{oneToOne}
 use Rattle.keyed_sides.specs.Keyed.{dropsMissing, Keyed}

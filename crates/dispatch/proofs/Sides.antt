@@ -10,8 +10,9 @@ use Rattle.model.specs.Labels.{Labels}
 use Rattle.timeseries.specs.SideLaws.{labels-at}
 use Rattle.plan.specs.Pairs.{noLabels}
 use Rattle.set_rules.specs.Sides as Sets
-use Rattle.pairs.specs.Edits.{InOrder}
-use Rattle.pairs.specs.Pairing.{Level, PairSides, LeftLabels}
+use Rattle.pair_labels.specs.Edits.{InOrder}
+use Rattle.pair_labels.specs.Records.{LeftLabels}
+use Rattle.pairs.specs.Pairing.{Level, PairSides}
 use Rattle.join_leads.specs.Lent.{Lent}
 use Rattle.join_rows.specs.Sides.{OneLent, JoinLent}
 use Rattle.model.specs.Query.{Query}

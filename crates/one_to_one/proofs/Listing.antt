@@ -21,9 +21,9 @@ use Rattle.plan.specs.Conclude.{orElse}
 use Rattle.plan.specs.Pairs.{isPair, pairClash, pairsClash, pairsFrom}
 use Rattle.merging.specs.Laws.{last-within, last-is}
 use Rattle.pairs.specs.Pairing.{sidesOf, PairSides, failureOf}
-use Rattle.pairs.proofs.Checks.{pair-left, pair-right}
+use Rattle.pairs.proofs.Pairing.{pair-left, pair-right}
 use Rattle.pairs.proofs.Lists.{pairs-at-most}
-use Rattle.one_to_one.specs.Rows.{Paired}
+use Rattle.pair_rows.specs.Rows.{Paired}
 use Rattle.answers.specs.declared.Outcome.{Outcome}
 use Rattle.answers.specs.Outcomes.{Ran}
 use Rattle.one_to_one.specs.Answers.{answerOf, Listed, Clear}

@@ -13,9 +13,10 @@ use Rattle.plan.specs.Conclude.{conclude}
 use Rattle.plan.specs.Pairs.{Sides, pairsClash, pairsFrom, pairSeries}
 use Rattle.answers.specs.Outcomes.{startingWith}
 use Rattle.key_ends.specs.Codes.{PairEnds}
-use Rattle.pairs.specs.Edits.{pairLabels}
-use Rattle.pairs.specs.Pairing.{PairSides, LeftLabels, PlacesIn, LabelsPut, sidesOf}
-use Rattle.one_to_one.specs.Rows.{pairedRow, PairedRows}
+use Rattle.pair_labels.specs.Edits.{pairLabels}
+use Rattle.pair_labels.specs.Records.{LeftLabels, PlacesIn, LabelsPut}
+use Rattle.pairs.specs.Pairing.{PairSides, sidesOf}
+use Rattle.pair_rows.specs.Rows.{pairedRow, PairedRows}
 
 -- what the answer series of left places come to, by the lengths of the lent parts
 abbrev pub answerOf : Model.Query → ℕ → ℕ → Sides → List Labels → List ℕ → Outcome

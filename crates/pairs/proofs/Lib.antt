@@ -1,4 +1,2 @@
-pub mod Edits
-pub mod Checks
+pub mod Pairing
 pub mod Lists
-pub mod Records

@@ -1,7 +1,7 @@
 -- The left places whose labels the answer has, noted one behind another. Assumes nothing.
 use Prim.Native.Nat.{ℕ, suc, _+_, _≤_, _<_}
-use mathlib.Core.Path.{_≡_, refl, sym, ap, _∙_}
-use mathlib.Core.Bool.{Bool, true, false, cond}
+use mathlib.Core.Path.{_≡_, refl, sym}
+use mathlib.Core.Bool.{Bool, true, false}
 use mathlib.Core.List.{List, [], _∷_, _++_}
 use native.Mathlib.Numerals.{add-one}
 use native.Mathlib.Omega.{arith}
@@ -11,7 +11,6 @@ use Rattle.model.specs.Lists.{cases}
 use Rattle.label_edits.specs.Written.{Put}
 use Rattle.label_edits.proofs.Written.{written-none, put-byte-done, Rest, rest-start, rest-put, rest-done}
 use Rattle.key_ends.specs.Codes.{CodeOf, leftLast, left-last}
-use Rattle.plan.specs.Keys.{lastOf}
 use Rattle.plan.specs.Pairs.{isPair, pairsFrom}
 use Rattle.pairs.specs.Pairing.{pairAt}
 
