@@ -3,6 +3,7 @@ use answers::Outcome;
 use answers::Room;
 use join_plan::Plan;
 use join_rows::Work;
+use operator::Operator;
 ghost use mathlib.Core.Path.{_≡_};
 ghost use lib.ListN.{length};
 ghost use Rattle.labels.specs.Names.{namesOf};
@@ -153,7 +154,7 @@ fn answer_rows<'a>(
     requires planned { ⌜ RowsPlanned (namesOf (now join)) (namesOf (now skip)) p (now «many_array») (now «many_at») (now «many_keys») (now «many_rows») (now array) (now at) (now keys) (now rows) (now ends) (now list) n ⌝ }
     ensures { λ r. ⌜ Joined w (namesOf (now (join .entry))) (namesOf (now (skip .entry))) p (now («many_array» .entry)) (now («many_at» .entry)) (now («many_keys» .entry)) (now («many_rows» .entry)) (now (array .entry)) (now (at .entry)) (now (keys .entry)) (now (rows .entry)) (now (labels .entry)) (now (out .entry)) (now (labels .exit)) (now (out .exit)) r ⌝ }
 {
-    if 512 < n {
+    if Operator::MAX_SERIES < n {
         return Outcome::TooLarge;
     }
     answer_join(

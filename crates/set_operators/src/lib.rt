@@ -1,6 +1,7 @@
 // The six set operators: the answer series listed, measured, and written where they fit.
 use answers::Outcome;
 use answers::Room;
+use operator::Operator;
 use set_points::SetRule;
 ghost use mathlib.Core.Bool.{false, true};
 ghost use Prim.Native.Nat.{_≤_};
@@ -130,7 +131,7 @@ fn run_set(
         &ends,
         &mut list,
     );
-    if 512 < n {
+    if Operator::MAX_SERIES < n {
         return Outcome::TooLarge;
     }
     answer_rows(

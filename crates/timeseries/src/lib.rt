@@ -1,15 +1,12 @@
 // Vectors: taken from bytes and readings, their records and rows.
 use metric_name::Record;
+use operator::Operator;
 ghost use mathlib.Core.Path.{_≡_};
 ghost use Prim.Native.Nat.{_+_, _-_, _*_, _≤_, _<_};
 ghost use Rattle.model.specs.Vector.{twoBytesAt};
 ghost use lib.ListN.{length};
 ghost use Rattle.timeseries.specs.Sides.{recordAt, rowAt, Positions};
 ghost use Rattle.timeseries.specs.Takes.{WalkedInto, TakenInto};
-
-pub const MAX_SERIES: usize = 512;
-
-pub const MAX_POINTS: usize = 1024;
 
 fn wide(x: u8) -> usize
     ensures { λ r. ⌜ (r ≡ x) × (r < 256) ⌝ }
@@ -75,10 +72,10 @@ pub fn take_vector(labels: &[u8], readings: &[u64], at: &mut [usize; 513]) -> Ta
     let n = two_bytes_at(labels, 0);
     let p = two_bytes_at(labels, 2);
     let size = two_bytes_at(labels, 4);
-    if MAX_SERIES < n {
+    if Operator::MAX_SERIES < n {
         return Taken::Cut(0);
     }
-    if MAX_POINTS < p {
+    if Operator::MAX_POINTS < p {
         return Taken::Cut(0);
     }
     if labels.len() - 6 != size {
