@@ -4,18 +4,17 @@ use mathlib.Core.Path.{_≡_, refl, sym, ap, _∙_}
 use mathlib.Core.Bool.{Bool, true, false, _||_, cond}
 use mathlib.Core.Option.{Option, none, some}
 use mathlib.Core.List.{List, [], _∷_, _++_, map}
-use native.Mathlib.Omega.{arith}
 use lib.Dec.{ltb}
 use lib.ListN.{length, length-map}
-use borrow.Author.Tests.{lt-ltb, le-ltb, ltb-false}
+use borrow.Author.Tests.{lt-ltb, le-ltb}
 use Rattle.model.specs.Limits.{maxSeries, maxLabelBytes}
-use Rattle.model.specs.Lists.{gather, cases}
+use Rattle.model.specs.Lists.{gather}
 use Rattle.model.specs.Labels.{Labels}
 use Rattle.model.specs.Query.{left, right}
 use Rattle.model.specs.Vector.{Series, Shape, labelBytes, readingsOf}
 use Rattle.semantics.specs.Events.{Duplicate}
 use Rattle.semantics.specs.Call as Call
-use Rattle.semantics.specs.Call.{refused, answered, fit, overTags, overLimits, overRoom}
+use Rattle.semantics.specs.Call.{refused, answered, fit, overTags}
 use Rattle.plan.specs.Conclude.{conclude}
 use Rattle.answers.specs.declared.Outcome.{Outcome}
 use Rattle.answers.specs.declared.Outcome.the-variants as Out

@@ -2,20 +2,41 @@
 use Prim.Native.Nat.{ℕ, suc, _+_, _-_, _*_, _≤_, _<_}
 use mathlib.Core.Path.{_≡_, refl, sym, ap, _∙_}
 use mathlib.Core.List.{List, [], _∷_, _++_, append-nil}
-use native.Mathlib.Nat.{le-refl, suc-mul, zero-mul, mul-le-mul-right, add-sub-cancel-left}
+use native.Mathlib.Nat.{suc-mul, zero-mul, mul-le-mul, mul-le-mul-right}
 use native.Mathlib.Numerals.{add-one}
 use native.Mathlib.Omega.{arith}
-use lib.ListN.{length, getD, take, drop, set, length-append, length-set, drop-of-length-le}
+use mir.Syntax.{w64}
+use mir.Val.{Fits}
+use lib.ListN.{length, getD, take, drop, set, length-append, length-take, length-drop, length-set, drop-of-length-le}
 use lib.Seq.{drop-cons, take-suc-set, append-snoc, take-all}
 use borrow.Rule.Slice.PartMut.{putMid, post-is}
+use Rattle.model.specs.Limits.{maxSeries, maxPoints}
 use Rattle.model.specs.Lists.{gather}
-use Rattle.label_edits.specs.Written.{written, Put}
+use Rattle.writing.specs.Written.{written, Put}
 use Rattle.answers.specs.Outcomes.{startingWith}
 use Rattle.answers.proofs.Writing.{Writing, writing-starts, writing-turn, writing-ends}
 
 -- a row below n ends within n rows
 pub row-in : (r n p : ℕ) → r < n → r * p + p ≤ n * p
 row-in r n p h = rw (← suc-mul) (mul-le-mul-right p h)
+
+-- a row that ends within the readings has its width
+pub row-width : (p : ℕ) (rows x : List ℕ) (i : ℕ) → i * p + p ≤ length rows → x ≡ take p (drop (i * p) rows) → length x ≡ p
+row-width p rows x i h e = rw e (simp (length-take, length-drop) (omega arith))
+
+-- a row of an answer begins and ends at numbers of one word, and so do its bytes
+module _ (r p : ℕ) (rows : List ℕ) (h : r < length rows) (k : length rows ≤ maxSeries) (q : p ≤ maxPoints) where
+  most : r * p ≤ 524288
+  most = let few : r ≤ 512 = omega arith in let z : r * p ≤ 512 * 1024 = mul-le-mul few q in omega arith
+
+  pub from-fits : Fits w64 (r * p)
+  from-fits = omega (arith, most)
+
+  pub to-fits : Fits w64 (r * p + p)
+  to-fits = omega (arith, most)
+
+  pub bytes-fit : Fits w64 (r * p * 8)
+  bytes-fit = omega (arith, most)
 
 next-row : (r p : ℕ) → r * p + p ≡ (r + 1) * p
 next-row r p = rw (add-one, suc-mul)
@@ -53,6 +74,9 @@ module _ (g : ℕ → List ℕ) (p : ℕ) (rows d₀ : List ℕ) where
       -- the part of row r lies within the readings
       pub row-within : r * p + p ≤ length d
       row-within = omega (arith, row-in r (length rows) p h, rows-length, inv .room)
+
+      pub part-wide : length (take (r * p + p - r * p) (drop (r * p) d)) ≡ p
+      part-wide = simp (length-take, length-drop) (omega (arith, row-within))
 
       put-row : (y : List ℕ) → y ≡ g (getD rows r 0) → Put d (r * p) (g (getD rows r 0)) (putMid (r * p) (r * p + p - r * p) d y) ((r + 1) * p)
       unfolding written

@@ -15,12 +15,11 @@ use borrow.Author.Tests.{lt-ltb, le-ltb, ltb-false}
 use Rattle.model.specs.Limits.{maxSeries, maxPoints, maxTags, maxLabelBytes}
 use Rattle.model.specs.Labels.{Labels}
 use Rattle.model.specs.Record.{encode}
-use Rattle.label_edits.specs.declared.Size.{Size}
-use Rattle.label_edits.specs.Edited.{Sized}
+use Rattle.kept_labels.specs.declared.Size.{Size}
 use Rattle.answers.specs.declared.Tally.{Tally}
 use Rattle.answers.specs.declared.Room.{Room}
 use Rattle.answers.specs.declared.Room.the-variants as Room
-use Rattle.answers.specs.Tallies.{mostOfRecord, mostBytes, noTally, withSize, recordsOf, someWide, TallyOf, roomOf}
+use Rattle.answers.specs.Tallies.{mostOfRecord, mostBytes, SizedRecord, noTally, withSize, recordsOf, someWide, TallyOf, roomOf}
 
 -- `tallied`
 
@@ -103,16 +102,16 @@ module _ (f : ℕ → Labels) (rows : List ℕ) where
   tally-starts h = record { within = omega arith; few = h; bytes = omega arith; wide = refl; small = omega arith }
 
   module _ (r : ℕ) (t : Tally) (inv : Tallying f rows r t) where
-    module _ (h : r < length rows) (z : Size) (s : Sized (f (getD rows r 0)) z) (m : z .bytes ≤ mostOfRecord) where
+    module _ (h : r < length rows) (z : Size) (s : SizedRecord (f (getD rows r 0)) z) where
       records-step : length (recordsOf f (drop r rows)) ≡ length (encode (f (getD rows r 0))) + length (recordsOf f (drop (r + 1) rows))
       records-step = rw (drop-cons rows r 0 h, add-one r) (length-append (encode (f (getD rows r 0))) (recordsOf f (drop (suc r) rows)))
 
       wide-step : someWide f (drop r rows) ≡ (ltb maxTags (z .tags) || someWide f (drop (r + 1) rows))
       unfolding someWide
-      wide-step = rw (drop-cons rows r 0 h, add-one r, s .tags)
+      wide-step = rw (drop-cons rows r 0 h, add-one r, s .sized .tags)
 
       pub tally-room : t .bytes + z .bytes ≤ mostBytes
-      tally-room = omega (arith, inv .small, inv .few)
+      tally-room = omega (arith, inv .small, inv .few, s .small)
 
       pub tally-turn : (t′ : Tally) → t′ ≡ withSize t z → Tallying f rows (r + 1) t′
       tally-turn t′ e =
@@ -120,9 +119,9 @@ module _ (f : ℕ → Labels) (rows : List ℕ) where
           (record {
             within = omega arith;
             few = inv .few;
-            bytes = omega (arith, inv .bytes, records-step, s .bytes);
+            bytes = omega (arith, inv .bytes, records-step, s .sized .bytes);
             wide = either-first (t .wide) (ltb maxTags (z .tags)) (someWide f (drop (r + 1) rows)) ∙ ap (λ (b : Bool). t .wide || b) (sym wide-step) ∙ inv .wide;
-            small = omega (arith, inv .small);
+            small = omega (arith, inv .small, s .small);
           })
 
     none-wide : length rows ≤ r → someWide f (drop r rows) ≡ false

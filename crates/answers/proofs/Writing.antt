@@ -1,6 +1,6 @@
 -- Parts written one behind another from the start of an output part: the label records of rows, or their readings. Assumes nothing.
-use Prim.Native.Nat.{ℕ, suc, _+_, _≤_, _<_}
-use mathlib.Core.Path.{_≡_, refl, sym, ap, _∙_}
+use Prim.Native.Nat.{ℕ, _+_, _≤_, _<_}
+use mathlib.Core.Path.{_≡_, refl, _∙_}
 use mathlib.Core.List.{List, [], _∷_, _++_}
 use native.Mathlib.Nat.{zero-add}
 use native.Mathlib.Numerals.{add-one}
@@ -8,9 +8,12 @@ use native.Mathlib.Omega.{arith}
 use lib.ListN.{length, getD, drop, drop-of-length-le}
 use lib.Seq.{drop-cons}
 use Rattle.model.specs.Lists.{gather}
-use Rattle.label_edits.specs.Written.{written, Put}
-use Rattle.label_edits.proofs.Written.{Rest, rest-start, rest-room, rest-put, rest-done}
+use Rattle.model.specs.Labels.{Labels}
+use Rattle.model.specs.Record.{encode}
+use Rattle.writing.specs.Written.{written, Put}
+use Rattle.writing.proofs.Written.{Rest, rest-start, rest-room, rest-put, rest-done}
 use Rattle.answers.specs.Outcomes.{startingWith}
+use Rattle.answers.specs.Tallies.{RecordsPut}
 
 -- the parts of the rows before r are written in d, up to o; `part` gives the part of a row
 pub record Writing (part : ℕ → List ℕ) (rows d₀ : List ℕ) (r : ℕ) (d : List ℕ) (o : ℕ) : Type 0 where
@@ -49,3 +52,11 @@ module _ (part : ℕ → List ℕ) (rows d₀ : List ℕ) where
 
       pub writing-count : o ≡ length (gather part rows)
       writing-count = whole .next ∙ zero-add (length (gather part rows))
+
+-- the records of rows
+pub records-put : (f : ℕ → Labels) (rows d₀ : List ℕ) (r : ℕ) (d : List ℕ) (o : ℕ) → Writing (λ x. encode (f x)) rows d₀ r d o → length rows ≤ r → RecordsPut f rows d₀ d o
+records-put f rows d₀ r d o inv h =
+    record {
+      out = writing-ends (λ x. encode (f x)) rows d₀ r d o inv h;
+      bytes = writing-count (λ x. encode (f x)) rows d₀ r d o inv h;
+    }

@@ -1,18 +1,20 @@
--- What an answer takes, and whether it fits. A row of an answer is a number, its code; f gives the labels of a code. Assumes nothing.
-use Prim.Native.Nat.{ℕ, _+_, _*_}
+-- What an answer takes, whether it fits, and what writing its records leaves. A row of an answer is a number, its code; f gives the labels of a code. Assumes nothing.
+use Prim.Native.Nat.{ℕ, _+_, _*_, _≤_}
 use mathlib.Core.Path.{_≡_}
 use mathlib.Core.Bool.{Bool, false, _||_, cond}
 use mathlib.Core.List.{List, [], _∷_}
 use lib.Dec.{ltb}
 use lib.ListN.{length}
-use Rattle.model.specs.Limits.{maxSeries, maxPoints, maxTags, maxLabelBytes}
+use Rattle.model.specs.Limits.{maxTags, maxLabelBytes}
 use Rattle.model.specs.Lists.{gather}
 use Rattle.model.specs.Labels.{Labels}
 use Rattle.model.specs.Record.{encode}
-use Rattle.label_edits.specs.declared.Size.{Size}
+use Rattle.kept_labels.specs.declared.Size.{Size}
+use Rattle.kept_labels.specs.Edited.{Sized}
 use Rattle.answers.specs.declared.Tally.{Tally}
 use Rattle.answers.specs.declared.Room.{Room}
 use Rattle.answers.specs.declared.Room.the-variants.{Fits, TooLarge, TooLong}
+use Rattle.answers.specs.Outcomes.{startingWith}
 
 -- the bytes that an edited record has at most: those of two label arrays, and of a name, a count and lengths
 abbrev pub mostOfRecord : ℕ
@@ -21,6 +23,11 @@ mostOfRecord = 131370
 -- and those of all records of an answer
 abbrev pub mostBytes : ℕ
 mostBytes = 67261440
+
+-- the size of a record, which a tally has room for
+pub record SizedRecord (l : Labels) (z : Size) : Type 0 where
+  pub sized : Sized l z
+  pub small : z .bytes ≤ mostOfRecord
 
 abbrev pub noTally : Tally
 noTally = record { bytes = 0; wide = false }
@@ -32,6 +39,11 @@ withSize t z = record { bytes = t .bytes + z .bytes; wide = t .wide || ltb maxTa
 -- the records of rows, one behind another
 abbrev pub recordsOf : (ℕ → Labels) → List ℕ → List ℕ
 recordsOf f rows = gather (λ x. encode (f x)) rows
+
+-- the records of rows at the start of an output part, and r is their bytes
+pub record RecordsPut (f : ℕ → Labels) (rows before after : List ℕ) (r : ℕ) : Type 0 where
+  pub out : after ≡ startingWith (recordsOf f rows) before
+  pub bytes : r ≡ length (recordsOf f rows)
 
 -- 01: over 32 tags
 unfoldable pub someWide : (ℕ → Labels) → List ℕ → Bool

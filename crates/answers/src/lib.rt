@@ -1,5 +1,5 @@
 // What the answers of all operators share: their outcome, what they take and whether it fits, and a row copied.
-use label_edits::Size;
+use kept_labels::Size;
 use operator::Operator;
 ghost use mathlib.Core.Path.{_≡_};
 ghost use Prim.Native.Nat.{_+_, _*_, _≤_, _<_};

@@ -1,7 +1,6 @@
 -- What each stage of a call comes to, by what taking found. Assumes nothing.
 use Prim.Native.Nat.{ℕ, _+_, _-_, _≤_, _<_}
-use mathlib.Core.Path.{_≡_, refl, sym, ap, _∙_}
-use mathlib.Core.Bool.{Bool, true, false, cond}
+use mathlib.Core.Path.{_≡_, refl, sym, _∙_}
 use mathlib.Core.List.{List}
 use native.Mathlib.Omega.{arith}
 use mir.Syntax.{w8, w64}
@@ -10,10 +9,10 @@ use lib.ListN.{length, getD, take, drop, length-drop}
 use lib.Seq.{take-all}
 use borrow.Author.Tests.{eq-eqb, ne-eqb}
 use Rattle.model.specs.Query as Model
-use Rattle.model.specs.Vector.{Series, Shape, Vector, vector, faulty, takeVector, labelPart}
+use Rattle.model.specs.Vector.{Series, Shape, Vector, takeVector, labelPart}
 use Rattle.model.specs.Laws.Vector.{taken-is}
 use Rattle.semantics.specs.Call as Call
-use Rattle.semantics.specs.Call.{refused, running, onVector, call}
+use Rattle.semantics.specs.Call.{running, onVector, call}
 use Rattle.query.specs.declared.Query.{Query}
 use Rattle.query.specs.declared.Request.{Request}
 use Rattle.query.specs.declared.Request.the-variants as R
@@ -28,7 +27,7 @@ use Rattle.answers.specs.declared.Outcome.the-variants as Out
 use Rattle.answers.specs.Outcomes.{Ran}
 use Rattle.keyed_sides.specs.Lent.{LentSide, lentVector, bytes-of, readings-of, lent-vector, lent-side}
 use Rattle.dispatch.specs.Runs.{Asked, ranOver}
-use Rattle.binop_vector_vector.specs.Stages.{asked-carried, leftStage, rightStage, call-asked, call-operator, call-malformed}
+use Rattle.binop_vector_vector.specs.Stages.{asked-carried, leftStage, call-asked, call-operator, call-malformed}
 
 -- a query, taken or refused
 

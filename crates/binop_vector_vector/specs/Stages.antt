@@ -1,12 +1,12 @@
 -- A call in the stages that the code goes through: the query taken, the left side, the right side, then running. Assumes nothing.
 use Prim.Native.Nat.{ℕ}
-use mathlib.Core.Path.{_≡_, refl, sym, ap, _∙_}
+use mathlib.Core.Path.{_≡_, refl, ap, _∙_}
 use mathlib.Core.Bool.{true}
 use mathlib.Core.List.{List}
 use Rattle.operator.specs.Operators.{isCarried}
 use Rattle.model.specs.Query as Model
 use Rattle.model.specs.Laws.Query.{taken-query}
-use Rattle.model.specs.Vector.{Vector, vector, faulty, takeVector}
+use Rattle.model.specs.Vector.{Vector, takeVector}
 use Rattle.semantics.specs.Call.{Outcome, refused, running, onVector, onQuery, call}
 use Rattle.query.specs.declared.Query.{Query}
 use Rattle.query.specs.Queries.{queryOf}

@@ -26,10 +26,10 @@ use Rattle.naming.specs.declared.Naming.{Naming}
 use Rattle.naming.specs.Namings.{namingOf}
 use Rattle.join_rows.specs.declared.Work.{Work}
 use Rattle.joins.specs.Joined.{WorkOf, Joined}
-use Rattle.timeseries.specs.Sides.{labelsIn}
+use Rattle.side_parts.specs.Sides.{labelsIn}
 use Rattle.answers.specs.declared.Outcome.{Outcome}
 use Rattle.answers.specs.Outcomes.{Ran}
-use Rattle.pair_labels.specs.Edits.{queryBy}
+use Rattle.adjusted_labels.specs.Edits.{queryBy}
 use Rattle.pairs.specs.Pairing.{sidesOf}
 use Rattle.one_to_one.specs.Answers.{oneToOne}
 use Rattle.keyed_sides.specs.Keyed.{dropsMissing, Keyed}

@@ -15,11 +15,11 @@ use Rattle.operator.proofs.Operator.{the-type}
 use Rattle.operator.proofs.Cases.{by-numbers}
 use Rattle.model.specs.Laws.Booleans.{never}
 use Rattle.semantics.specs.Binop.{adds}
-use Rattle.timeseries.specs.Sides.{labelsIn}
+use Rattle.side_parts.specs.Sides.{labelsIn}
 use Rattle.answers.specs.declared.Outcome.{Outcome}
-use Rattle.set_rules.specs.Rules.{bareSide}
-use Rattle.set_rules.specs.Sides.{lentSides}
-use Rattle.set_operators.specs.Answers.{SetAnswered}
+use Rattle.set_sides.specs.Scalars.{bareSide}
+use Rattle.set_sides.specs.Sides.{lentSides}
+use Rattle.set_answers.specs.Answers.{SetAnswered}
 use Rattle.query.specs.declared.Query.{Query}
 use Rattle.query.specs.Queries.{queryOf}
 use Rattle.answers.specs.Outcomes.{Ran}

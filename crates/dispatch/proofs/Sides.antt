@@ -1,20 +1,18 @@
 -- A side with its key numbers is all that each family asks of a side. Assumes nothing.
 use Prim.Native.Nat.{ℕ, _+_, _*_, _≤_, _<_}
-use mathlib.Core.Path.{_≡_, refl, sym, ap, _∙_}
+use mathlib.Core.Path.{_≡_, refl, ap, _∙_}
 use mathlib.Core.Bool.{Bool}
 use mathlib.Core.List.{List}
 use native.Mathlib.Omega.{arith}
 use lib.ListN.{length}
 use Rattle.model.specs.Limits.{maxPoints}
-use Rattle.model.specs.Labels.{Labels}
-use Rattle.timeseries.specs.SideLaws.{labels-at}
+use Rattle.side_parts.specs.SideLaws.{labels-at}
 use Rattle.plan.specs.Pairs.{noLabels}
-use Rattle.set_rules.specs.Sides as Sets
-use Rattle.pair_labels.specs.Edits.{InOrder}
+use Rattle.set_sides.specs.Sides as Sets
 use Rattle.pair_labels.specs.Records.{LeftLabels}
 use Rattle.pairs.specs.Pairing.{Level, PairSides}
-use Rattle.join_leads.specs.Lent.{Lent}
-use Rattle.join_rows.specs.Sides.{OneLent, JoinLent}
+use Rattle.lead_marks.specs.Lent.{Lent}
+use Rattle.join_rows.specs.Sides.{JoinLent}
 use Rattle.model.specs.Query.{Query}
 use Rattle.keyed_sides.specs.Keyed.{KeyedSide, Keyed}
 

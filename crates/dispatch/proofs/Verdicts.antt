@@ -2,7 +2,7 @@
 use Prim.Native.Nat.{ℕ, _+_, _*_, _≤_, _<_}
 use mathlib.Core.Path.{_≡_, refl, sym, ap, _∙_}
 use mathlib.Core.Bool.{Bool, true, false, _&&_, cond}
-use mathlib.Core.Option.{Option, none, some}
+use mathlib.Core.Option.{none, some}
 use mathlib.Core.List.{List, [], _∷_, map}
 use native.Mathlib.Omega.{arith}
 use lib.Dec.{eqb}
@@ -18,7 +18,7 @@ use Rattle.model.specs.Vector.{Series, seriesOf}
 use Rattle.model.specs.Laws.Vector.{series-count}
 use Rattle.semantics.specs.Binop.{adds, allowedOverlaps, scalarSide, isBare}
 use Rattle.semantics.specs.Call as Call
-use Rattle.semantics.specs.Call.{fit, concluded, verdict}
+use Rattle.semantics.specs.Call.{fit}
 use Rattle.plan.specs.Conclude.{conclude}
 use Rattle.plan.specs.Pairs.{Sides, pairsClash, pairsFrom, pairSeries}
 use Rattle.plan.specs.Joins.{JoinSides, joinClash, joinRowsFrom, joinSeries}
@@ -26,10 +26,9 @@ use Rattle.plan.specs.Sets.{SetSides, setRows, setSeries}
 use Rattle.plan.specs.Laws.Sets.{isGiven}
 use Rattle.answers.specs.declared.Outcome.{Outcome}
 use Rattle.answers.specs.Outcomes.{Ran}
-use Rattle.timeseries.specs.Sides.{labelsIn, sideOf}
-use Rattle.timeseries.specs.SideLaws.{labels-count}
-use Rattle.set_rules.specs.Rules.{bareSide}
-use Rattle.keyed_sides.specs.Lent.{LentSide}
+use Rattle.side_parts.specs.Sides.{labelsIn, sideOf}
+use Rattle.side_parts.specs.SideLaws.{labels-count}
+use Rattle.set_sides.specs.Scalars.{bareSide}
 use Rattle.keyed_sides.specs.Keyed.{dropsMissing, KeyedSide, Keyed}
 use Rattle.dispatch.specs.Runs.{ranOver}
 use Rattle.dispatch.specs.Families as Families

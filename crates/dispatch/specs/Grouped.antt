@@ -10,7 +10,7 @@ use Rattle.plan.specs.Conclude.{conclude}
 use Rattle.plan.specs.Joins.{joinClash, joinRowsFrom, joinSeries}
 use Rattle.query.specs.declared.Query.{Query}
 use Rattle.naming.specs.Namings.{namingOf}
-use Rattle.timeseries.specs.Sides.{labelsIn}
+use Rattle.side_parts.specs.Sides.{labelsIn}
 use Rattle.join_rows.specs.declared.Work.{Work}
 use Rattle.join_rows.specs.Codes.{sideOf}
 use Rattle.join_rows.specs.Sides.{sidesOf}

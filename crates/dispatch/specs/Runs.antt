@@ -9,7 +9,7 @@ use Rattle.operator.specs.Kinds.{kindOf}
 use Rattle.operator.specs.Operators.{isCarried}
 use Rattle.model.specs.Query as Model
 use Rattle.semantics.specs.Call.{Outcome, concluded, verdict}
-use Rattle.timeseries.specs.Sides.{sideOf}
+use Rattle.side_parts.specs.Sides.{sideOf}
 use Rattle.query.specs.declared.Query.{Query}
 use Rattle.query.specs.Queries.{ListsWithin}
 use Rattle.answers.specs.declared.Outcome as Answers

@@ -81,7 +81,7 @@ fn run_logical(
             labels,
             out,
         ),
-        Operator::If => set_operators::binary_op_if(
+        Operator::If => fallback_operators::binary_op_if(
             p,
             left_labels,
             left_at,
@@ -94,7 +94,7 @@ fn run_logical(
             labels,
             out,
         ),
-        Operator::IfNot => set_operators::binary_op_if_not(
+        Operator::IfNot => fallback_operators::binary_op_if_not(
             p,
             left_labels,
             left_at,
@@ -107,7 +107,7 @@ fn run_logical(
             labels,
             out,
         ),
-        _ => set_operators::binary_op_default(
+        _ => fallback_operators::binary_op_default(
             p,
             left_labels,
             left_at,

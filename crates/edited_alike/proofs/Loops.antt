@@ -7,9 +7,9 @@ use lib.ListN.{take, drop}
 use Rattle.model.specs.Labels.{sameBytes, sameTags}
 use Rattle.model.specs.Record.{encodeTags}
 use Rattle.model.specs.Edits.{Names}
-use Rattle.metric_name.specs.Cursors.{encodeTag, encode-tag}
-use Rattle.signature.specs.Keys.{hashBytes, hashOf, hash-append}
-use Rattle.signature.proofs.Keys.{same-tag}
+use Rattle.record_tags.specs.Cursors.{encodeTag, encode-tag}
+use Rattle.chosen_tags.specs.Keys.{hashBytes, hashOf, hash-append}
+use Rattle.chosen_tags.proofs.Keys.{same-tag}
 use Rattle.edited_tags.specs.Streams.{editedTags, tagsLeft, WalkOf, EditedAt}
 use Rattle.edited_tags.specs.declared.Walk.{Walk}
 use Rattle.edited_tags.specs.declared.Edited.{Edited}

@@ -3,7 +3,7 @@ use edited_tags::Edited;
 ghost use mathlib.Core.Path.{_≡_};
 ghost use Rattle.model.specs.Labels.{sameTags};
 ghost use Rattle.labels.specs.Names.{namesOf};
-ghost use Rattle.signature.specs.Keys.{hashOf};
+ghost use Rattle.chosen_tags.specs.Keys.{hashOf};
 ghost use Rattle.edited_tags.specs.Streams.{editedTags};
 
 // Whether a many-side record has the same tags edited from the source a as from the source b.
@@ -28,7 +28,7 @@ pub fn same_edited<'a>(many: &'a [u8], a: &'a [u8], b: &'a [u8], join: &[u8], sk
                     end: stop,
                     rest: behind,
                 } => {
-                    if labels::same_bytes(
+                    if fields::same_bytes(
                         edited_tags::tag_bytes(many, a, sourced, start, end),
                         edited_tags::tag_bytes(many, b, other, begin, stop),
                     ) {

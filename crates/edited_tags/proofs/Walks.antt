@@ -7,24 +7,20 @@ use native.Mathlib.Omega.{arith}
 use lib.ListN.{length, take, drop}
 use Rattle.model.specs.Labels.{Tag, below}
 use Rattle.model.specs.Edits.{Names}
-use Rattle.model.specs.Laws.SetTags.{stayingTags, setFrom, mergeTags, merge-nil, merge-left, merge-right}
-use Rattle.metric_name.specs.Lenient.{tagsUpTo, labelsOf}
-use Rattle.metric_name.specs.Cursors.{TagsOf, tagAt, NextAt}
-use Rattle.metric_name.specs.declared.Tags.{Tags}
-use Rattle.metric_name.specs.declared.Next.{Next}
-use Rattle.metric_name.specs.declared.Next.the-variants as N
-use Rattle.metric_name.proofs.Cursors.{next-stands, next-fewer, next-tags, next-ended, span-order}
-use Rattle.edited_tags.specs.Streams.{tagsLeft, WalkOf, Spans, FirstLies, EditedAt}
+use Rattle.model.specs.Laws.SetTags.{stayingTags, setFrom, merge-nil, merge-left, merge-right, nil-merge}
+use Rattle.record_tags.specs.Lenient.{tagsUpTo, labelsOf}
+use Rattle.record_tags.specs.Cursors.{TagsOf, tagAt, NextAt}
+use Rattle.record_tags.specs.declared.Tags.{Tags}
+use Rattle.record_tags.specs.declared.Next.{Next}
+use Rattle.record_tags.specs.declared.Next.the-variants as N
+use Rattle.record_tags.proofs.Cursors.{next-stands, next-fewer, next-tags, next-ended, span-order}
+use Rattle.edited_tags.specs.Streams.{tagsLeft, WalkOf, Spans, EditedAt}
 use Rattle.edited_tags.specs.declared.Walk.{Walk}
 use Rattle.edited_tags.specs.declared.Edited.the-variants as E
 
 pub both-starts : (many source : List ℕ) (m s : Tags) → TagsOf many m → TagsOf source s → WalkOf many source (record { many = m .at; left = m .count; source = s .at; more = s .count })
 both-starts many source m s hm hs =
     record { tags = λ join skip. rw (hm .tags, hs .tags); few = omega (arith, hm .few, hs .few) }
-
-nil-merge : (ys : List Tag) → mergeTags [] ys ≡ ys
-unfolding mergeTags
-nil-merge ys = refl
 
 module _ (join skip : Names) (many source : List ℕ) (w : Walk) (x y : Next)
     (hx : NextAt (stayingTags join skip (labelsOf source .tags)) many (w .left) (w .many) x)

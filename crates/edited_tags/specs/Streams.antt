@@ -7,8 +7,8 @@ use lib.ListN.{length, take, drop}
 use Rattle.model.specs.Labels.{Tag}
 use Rattle.model.specs.Edits.{Names}
 use Rattle.model.specs.Laws.SetTags.{stayingTags, setFrom, mergeTags}
-use Rattle.metric_name.specs.Lenient.{tagsUpTo, labelsOf}
-use Rattle.metric_name.specs.Cursors.{encodeTag}
+use Rattle.record_tags.specs.Lenient.{tagsUpTo, labelsOf}
+use Rattle.record_tags.specs.Cursors.{encodeTag}
 use Rattle.edited_tags.specs.declared.Walk.{Walk}
 use Rattle.edited_tags.specs.declared.Edited.{Edited}
 use Rattle.edited_tags.specs.declared.Edited.the-variants as E

@@ -5,7 +5,7 @@ ghost use Prim.Native.Nat.{_-_};
 ghost use lib.ListN.{take, drop};
 ghost use Rattle.labels.specs.Names.{namesOf};
 ghost use Rattle.edited_tags.specs.Streams.{Spans, WalkOf, EditedAt};
-use metric_name::Next;
+use record_tags::Next;
 
 // Where an edit stands: `left` tags of the many side's record are at `many`, and `more` of the source's at `source`.
 pub struct Walk {
@@ -30,8 +30,8 @@ pub enum Edited {
 pub fn walk_of(many: &[u8], source: &[u8]) -> Walk
     ensures { λ r. ⌜ WalkOf (now (many .entry)) (now (source .entry)) r ⌝ }
 {
-    let m = metric_name::tags_of(many);
-    let s = metric_name::tags_of(source);
+    let m = record_tags::tags_of(many);
+    let s = record_tags::tags_of(source);
     Walk {
         many: m.at,
         left: m.count,
@@ -61,7 +61,7 @@ pub fn next_edited(many: &[u8], source: &[u8], w: Walk, join: &[u8], skip: &[u8]
                 end: stop,
                 left: more,
             } => {
-                if labels::is_below(&many[key..key_end], &source[other..other_end]) {
+                if fields::is_below(&many[key..key_end], &source[other..other_end]) {
                     Edited::Tag {
                         sourced: false,
                         start,

@@ -1,6 +1,6 @@
 // The label records of a join's answer series, by their row codes: measured, and written one behind another.
 use answers::Tally;
-use label_edits::Size;
+use kept_labels::Size;
 use naming::Naming;
 ghost use mathlib.Core.Path.{_≡_};
 ghost use mathlib.Core.Bool.{false};
@@ -8,10 +8,10 @@ ghost use Prim.Native.Nat.{_≤_};
 ghost use lib.ListN.{length};
 ghost use Rattle.labels.specs.Names.{namesOf};
 ghost use Rattle.model.specs.Record.{encode};
-ghost use Rattle.label_edits.specs.Written.{Put};
-ghost use Rattle.answers.specs.Tallies.{TallyOf, recordsOf, someWide};
+ghost use Rattle.writing.specs.Written.{Put};
+ghost use Rattle.answers.specs.Tallies.{SizedRecord, TallyOf, recordsOf, RecordsPut, someWide};
 ghost use Rattle.join_rows.specs.Codes.{rowLabels};
-ghost use Rattle.join_labels.specs.Records.{CodeRecords, RecordsIn, SizedEdited, LabelRoom, LabelsPut};
+ghost use Rattle.join_labels.specs.Records.{CodeRecords, RecordsIn, LabelRoom};
 
 // The size of a code's edited record.
 fn code_size<'a>(
@@ -25,10 +25,10 @@ fn code_size<'a>(
     naming: Naming,
 ) -> Size
     requires held { ⌜ CodeRecords (now «many_array») (now «many_at») (now array) (now at) x ⌝ }
-    ensures { λ r. ⌜ SizedEdited (rowLabels (namesOf (now (join .entry))) (namesOf (now (skip .entry))) naming (now («many_array» .entry)) (now («many_at» .entry)) (now (array .entry)) (now (at .entry)) x) r ⌝ }
+    ensures { λ r. ⌜ SizedRecord (rowLabels (namesOf (now (join .entry))) (namesOf (now (skip .entry))) naming (now («many_array» .entry)) (now («many_at» .entry)) (now (array .entry)) (now (at .entry)) x) r ⌝ }
 {
-    let rec = timeseries::record(many_array, many_at, x / 512);
-    let src = timeseries::record(array, at, x % 512);
+    let rec = side_parts::record(many_array, many_at, x / 512);
+    let src = side_parts::record(array, at, x % 512);
     set_tags::set_tags_size(rec, src, join, skip, naming)
 }
 
@@ -76,8 +76,8 @@ fn put_code_labels<'a>(
     requires room { ⌜ LabelRoom (rowLabels (namesOf (now join)) (namesOf (now skip)) naming (now «many_array») (now «many_at») (now array) (now at) x) o (length (now out)) ⌝ }
     ensures { λ r. ⌜ Put (now (out .entry)) o (encode (rowLabels (namesOf (now (join .entry))) (namesOf (now (skip .entry))) naming (now («many_array» .entry)) (now («many_at» .entry)) (now (array .entry)) (now (at .entry)) x)) (now (out .exit)) r ⌝ }
 {
-    let rec = timeseries::record(many_array, many_at, x / 512);
-    let src = timeseries::record(array, at, x % 512);
+    let rec = side_parts::record(many_array, many_at, x / 512);
+    let src = side_parts::record(array, at, x % 512);
     set_tags::set_tags(out, o, rec, src, join, skip, naming)
 }
 
@@ -96,7 +96,7 @@ pub fn put_join_labels<'a>(
     requires held { ⌜ RecordsIn (now «many_array») (now «many_at») (now array) (now at) (now list) ⌝ }
     requires narrow { ⌜ someWide (rowLabels (namesOf (now join)) (namesOf (now skip)) naming (now «many_array») (now «many_at») (now array) (now at)) (now list) ≡ false ⌝ }
     requires room { ⌜ length (recordsOf (rowLabels (namesOf (now join)) (namesOf (now skip)) naming (now «many_array») (now «many_at») (now array) (now at)) (now list)) ≤ length (now out) ⌝ }
-    ensures { λ r. ⌜ LabelsPut (rowLabels (namesOf (now (join .entry))) (namesOf (now (skip .entry))) naming (now («many_array» .entry)) (now («many_at» .entry)) (now (array .entry)) (now (at .entry))) (now (list .entry)) (now (out .entry)) (now (out .exit)) r ⌝ }
+    ensures { λ r. ⌜ RecordsPut (rowLabels (namesOf (now (join .entry))) (namesOf (now (skip .entry))) naming (now («many_array» .entry)) (now («many_at» .entry)) (now (array .entry)) (now (at .entry))) (now (list .entry)) (now (out .entry)) (now (out .exit)) r ⌝ }
 {
     let mut o: usize = 0;
     let mut r: usize = 0;

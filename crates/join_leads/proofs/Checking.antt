@@ -1,21 +1,18 @@
 -- `try_lead`, `check_leads` and `list_leads`. Assumes nothing.
-use Prim.Native.Nat.{ℕ, zero, suc, _+_, _*_, _≤_, _<_}
-use mathlib.Core.Path.{_≡_, refl, sym, ap, _∙_}
-use mathlib.Core.Bool.{Bool, true, false, cond}
-use mathlib.Core.Option.{Option, none, some}
+use Prim.Native.Nat.{ℕ, suc, _+_, _*_, _≤_, _<_}
+use mathlib.Core.Path.{_≡_, refl, sym, _∙_}
+use mathlib.Core.Bool.{true, false, cond}
+use mathlib.Core.Option.{none}
 use mathlib.Core.List.{List, [], _∷_}
 use native.Mathlib.Numerals.{add-one}
 use native.Mathlib.Omega.{arith}
 use mir.Syntax.{w64}
 use mir.Val.{Fits}
 use lib.Dec.{eqb}
-use lib.ListN.{length, getD, take, drop, set, length-drop, length-set, drop-of-length-le}
-use lib.Seq.{drop-cons, getD-drop, set-out, sets, length-take-le}
-use borrow.Author.Tests.{eqb-true, eqb-false, eq-eqb, ne-eqb}
-use Rattle.model.specs.Limits.{maxSeries}
-use Rattle.model.specs.Lists.{cases}
+use lib.ListN.{length, getD, take, drop, set, length-drop, drop-of-length-le}
+use lib.Seq.{drop-cons, getD-drop, length-take-le}
+use borrow.Author.Tests.{eq-eqb, ne-eqb}
 use Rattle.model.specs.Query.{Side}
-use Rattle.semantics.specs.Events.{Duplicate}
 use Rattle.key_places.specs.Places.{lastOf, last-greatest}
 use Rattle.plan.specs.Conclude.{orElse}
 use Rattle.plan.specs.Merging.{rowAt, RowMerge, row, failedAt, mergeGroup, mergeLead, clash}
@@ -23,9 +20,10 @@ use Rattle.plan.specs.Joins.{leadsClash, leadRows, rowCode}
 use Rattle.merging.specs.declared.Merges.{Merges}
 use Rattle.merging.specs.declared.Merges.the-variants as M
 use Rattle.merging.specs.Groups.{mergesTo, MergedGroup}
-use Rattle.join_leads.specs.declared.Checked.{Checked}
+use Rattle.noting.specs.Places.{NotedAll}
+use Rattle.noting.proofs.Noting.{Noting, noting-starts, noting-turn, noting-length, noting-ends}
 use Rattle.join_leads.specs.declared.Checked.the-variants as C
-use Rattle.join_leads.specs.Checks.{TriedFrom, TriedAs, clashAs, ClashOf, CodesFit, Noted}
+use Rattle.join_leads.specs.Checks.{TriedFrom, TriedAs, clashAs, ClashOf, CodesFit}
 
 -- `try_lead`
 
@@ -48,8 +46,8 @@ module _ (allowance p : ℕ) (rows : List ℕ) where
 tried-from : (want : RowMerge) (r : Merges) (d : List ℕ) → mergesTo r d ≡ want → TriedFrom want r
 tried-from (row x) M.Done d h = refl
 tried-from (row x) (M.FailedAt i) d h = cc
-tried-from (failedAt j) M.Done d h = cc
-tried-from (failedAt j) (M.FailedAt i) d h = cc
+tried-from (failedAt j x) M.Done d h = cc
+tried-from (failedAt j x) (M.FailedAt i) d h = cc
 
 pub tried-merges : (want : RowMerge) (p : ℕ) (d : List ℕ) (r : Merges) → MergedGroup want p d r → TriedAs want r
 tried-merges want p d r h = record { answer = tried-from want r d (h .answer) }
@@ -84,11 +82,11 @@ module _ (allowance p : ℕ) (rows leads : List ℕ) where
       module _ (lead : getD leads n 0 ≡ n) (r : Merges) (t : TriedAs (mergeLead allowance p rows leads n) r) where
         done-row : (side : Side) → r ≡ M.Done → (w : RowMerge) → TriedFrom w r → clash side n w ≡ none
         done-row side e (row d) f = refl
-        done-row side e (failedAt i) f = cc
+        done-row side e (failedAt i d) f = cc
 
         failed-row : (side : Side) (i : ℕ) → r ≡ M.FailedAt i → (w : RowMerge) → TriedFrom w r → clash side n w ≡ clashAs side (C.Failed n i)
         failed-row side i e (row d) f = cc
-        failed-row side i e (failedAt j) f = let z : j ≡ i = cc in rw z
+        failed-row side i e (failedAt j d) f = let z : j ≡ i = cc in rw z
 
         pub check-done : r ≡ M.Done → Checking allowance p rows leads (n + 1)
         check-done e = record {
@@ -101,11 +99,6 @@ module _ (allowance p : ℕ) (rows leads : List ℕ) where
 
     pub check-ends : length leads ≤ n → ClashOf allowance p rows leads C.Done
     check-ends h = record { each = λ side. s .rest side ∙ rw (drop-of-length-le leads h) (clash-none side n) }
-
--- `note`
-
-pub note-past : (list : List ℕ) (n x : ℕ) → length list ≤ n → list ≡ set list n x
-note-past list n x h = sym (set-out list n x h)
 
 -- `list_leads`
 
@@ -122,20 +115,18 @@ pub record Listing (m n : ℕ) (leads before : List ℕ) (list : List ℕ) (r o 
   pub within : o ≤ length leads
   pub fit : CodesFit m n leads
   pub small : r ≤ n + o
-  pub long : length list ≡ length before
-  pub stored : sets list r (leadRows m o (drop o leads)) ≡ sets before n (leadRows m 0 leads)
-  pub count : r + length (leadRows m o (drop o leads)) ≡ n + length (leadRows m 0 leads)
+  pub noting : Noting (leadRows m 0 leads) n before (leadRows m o (drop o leads)) r list
 
 module _ (m n : ℕ) (leads before : List ℕ) where
   pub listing-starts : CodesFit m n leads → Listing m n leads before before n 0
-  listing-starts f = record { within = omega arith; fit = f; small = omega arith; long = refl; stored = refl; count = refl }
+  listing-starts f = record { within = omega arith; fit = f; small = omega arith; noting = noting-starts (leadRows m 0 leads) n before }
 
   module _ (list : List ℕ) (r o : ℕ) (s : Listing m n leads before list r o) where
     pub code-product : Fits w64 (m * 512)
     code-product = omega (arith, s .fit .place)
 
     pub list-room : length list ≡ length before
-    list-room = s .long
+    list-room = noting-length (leadRows m 0 leads) n before (leadRows m o (drop o leads)) r list (s .noting)
 
     module _ (h : o < length leads) where
       pub code-fits : Fits w64 (m * 512 + o)
@@ -154,33 +145,28 @@ module _ (m n : ℕ) (leads before : List ℕ) where
             within = omega arith;
             fit = s .fit;
             small = omega (arith, s .small);
-            long = s .long;
-            stored = ap (sets list r) (sym e) ∙ s .stored;
-            count = ap (λ (x : List ℕ). r + length x) (sym e) ∙ s .count;
+            noting = rw e at (s .noting);
           }
 
       pub listing-lead : getD leads o 0 ≡ o → (list′ : List ℕ) → list′ ≡ set list r (m * 512 + o) → Listing m n leads before list′ (r + 1) (o + 1)
       listing-lead f list′ g =
           let e : leadRows m o (drop o leads) ≡ rowCode m o ∷ leadRows m (o + 1) (drop (o + 1) leads) = next ∙ rw (eq-eqb (getD leads o 0) o f) in
-          let c : r + length (leadRows m o (drop o leads)) ≡ r + suc (length (leadRows m (o + 1) (drop (o + 1) leads))) = ap (λ (x : List ℕ). r + length x) e in
           record {
             within = omega arith;
             fit = s .fit;
             small = omega (arith, s .small);
-            long = ap length g ∙ length-set list r (m * 512 + o) ∙ s .long;
-            stored = rw (g, add-one r) (ap (sets list r) (sym e) ∙ s .stored);
-            count = omega (arith, c, s .count);
+            noting =
+                noting-turn (leadRows m 0 leads) n before true (rowCode m o) r list list′ (leadRows m (o + 1) (drop (o + 1) leads)) (r + 1)
+                (rw e at (s .noting))
+                (record { count = refl; content = g });
           }
 
-    pub listing-ends : length leads ≤ o → Noted (leadRows m 0 leads) before n list r
+    pub listing-ends : length leads ≤ o → NotedAll (leadRows m 0 leads) n before list r
     listing-ends h =
         let e : leadRows m o (drop o leads) ≡ [] = rw (drop-of-length-le leads h) (rows-none m o) in
-        record { stored = ap (sets list r) (sym e) ∙ s .stored; count = omega (arith, s .count, ap length e) }
+        noting-ends (leadRows m 0 leads) n before r list (rw e at (s .noting))
 
 -- a work row of p readings is the front of a longer one
-
-pub front-long : (p : ℕ) (l : List ℕ) → p ≤ length l → p ≡ length (take p l)
-front-long p l h = sym (length-take-le p l h)
 
 pub front-held : (p : ℕ) (l : List ℕ) (n r : ℕ) → p ≤ length l → n * p ≤ r → n * length (take p l) ≤ r
 front-held p l n r h k = rw (length-take-le p l h) k

@@ -1,4 +1,2 @@
-pub mod Alike
-pub mod Marking
 pub mod Checking
 pub mod Sole

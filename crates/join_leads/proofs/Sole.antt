@@ -1,6 +1,6 @@
 -- The leaders of a key with one series on the one side, or none: no merge behind any, and at most one answer row. Assumes nothing.
 use Prim.Native.Nat.{ℕ, zero, suc, _+_, _-_, _≤_, _<_}
-use mathlib.Core.Path.{_≡_, refl, sym, ap, _∙_}
+use mathlib.Core.Path.{_≡_, refl, sym, _∙_}
 use mathlib.Core.Bool.{true, false, cond}
 use mathlib.Core.Option.{none}
 use mathlib.Core.List.{List, [], _∷_}
@@ -12,13 +12,14 @@ use borrow.Author.Tests.{eqb-true, eq-eqb, ne-eqb}
 use Rattle.model.specs.Lists.{cases}
 use Rattle.model.specs.Labels.{Labels}
 use Rattle.model.specs.Query.{Query, Side}
+use Rattle.plan.specs.Laws.Joins.{alike-refl}
 use Rattle.key_places.specs.Places.{last-greatest}
 use Rattle.plan.specs.Keys.{dropped, firstOf, lastOf}
 use Rattle.plan.specs.Pairs.{noLabels}
-use Rattle.plan.specs.Merging.{rowAt, row, mergeLead, clash}
+use Rattle.plan.specs.Merging.{rowAt, row, mergeLead}
 use Rattle.plan.specs.Joins.{sameEditedBy, leadOf, leadsOf, leadsClash, leadRows, rowCode}
-use Rattle.merging.specs.Laws.{first-before, last-places}
-use Rattle.join_leads.proofs.Alike.{alike-refl, leads-among-long, leads-among-at}
+use Rattle.tried_merges.specs.Laws.{first-before, last-places}
+use Rattle.lead_marks.proofs.Leaders.{leads-among-long, leads-among-at}
 use Rattle.join_leads.proofs.Checking.{none-merge, clash-test, clash-none, rows-test, rows-none}
 
 le-refl : (n : ℕ) → n ≤ n

@@ -1,10 +1,9 @@
--- What the merges of a many-side series come to, and its answer rows noted in a list. Assumes nothing.
-use Prim.Native.Nat.{ℕ, _+_, _*_, _≤_, _<_}
+-- What the merges of a many-side series come to, and that its answer rows can be noted. Assumes nothing.
+use Prim.Native.Nat.{ℕ, _*_, _≤_, _<_}
 use mathlib.Core.Path.{_≡_}
 use mathlib.Core.Option.{Option, none, some}
 use mathlib.Core.List.{List}
 use lib.ListN.{length}
-use lib.Seq.{sets}
 use Rattle.model.specs.Limits.{maxSeries}
 use Rattle.model.specs.Query.{Side}
 use Rattle.semantics.specs.Events.{Duplicate}
@@ -18,7 +17,7 @@ use Rattle.join_leads.specs.declared.Checked.the-variants as C
 -- merges that are to come to `want` answer r; their row is not kept
 abbrev pub TriedFrom : RowMerge → Merges → Type 0
 TriedFrom (row d) r = r ≡ M.Done
-TriedFrom (failedAt i) r = r ≡ M.FailedAt i
+TriedFrom (failedAt i d) r = r ≡ M.FailedAt i
 
 pub record TriedAs (want : RowMerge) (r : Merges) : Type 0 where
   pub answer : TriedFrom want r
@@ -43,8 +42,3 @@ pub record RowFits (m o n : ℕ) : Type 0 where
   pub many : m < maxSeries
   pub one : o < maxSeries
   pub before : n ≤ m * 512
-
--- rows stored in a list behind the n before, as far as it goes, and the count r of all
-pub record Noted (rows before : List ℕ) (n : ℕ) (after : List ℕ) (r : ℕ) : Type 0 where
-  pub stored : after ≡ sets before n rows
-  pub count : r ≡ n + length rows

@@ -1,54 +1,56 @@
 -- `plan_leads`, `plan_many` and `plan_join`: what is planned so far, and what is left. Assumes nothing.
-use Prim.Native.Nat.{ℕ, zero, suc, _+_, _*_, _≤_, _<_}
+use Prim.Native.Nat.{ℕ, suc, _+_, _*_, _≤_, _<_}
 use mathlib.Core.Path.{_≡_, refl, sym, ap, _∙_}
 use mathlib.Core.Bool.{Bool, true, false, cond}
-use mathlib.Core.Option.{Option, none, some}
+use mathlib.Core.Option.{none, some}
 use mathlib.Core.List.{List, [], _∷_, _++_, append-assoc, append-nil}
 use native.Mathlib.Numerals.{add-one}
 use native.Mathlib.Omega.{arith}
 use lib.Dec.{eqb}
-use lib.ListN.{length, getD, take, drop, set, length-append, drop-of-length-le}
-use lib.Seq.{drop-cons, sets, length-sets, length-take-le}
+use lib.ListN.{length, getD, drop, length-append, drop-of-length-le}
+use lib.Seq.{drop-cons, sets, length-sets}
 use borrow.Author.Tests.{eq-eqb, ne-eqb}
-use Rattle.model.specs.Limits.{maxSeries}
 use Rattle.model.specs.Labels.{Labels, WellFormed}
 use Rattle.model.specs.Edits.{Names}
 use Rattle.model.specs.Query.{Query, Side}
 use Rattle.model.specs.Row.{twoOverlaps}
+use Rattle.model.specs.Laws.Lists.{sets-append}
 use Rattle.semantics.specs.Events.{Duplicate}
 use Rattle.semantics.specs.Rules.{other}
 use Rattle.semantics.specs.Binop.{allowedOverlaps}
 use Rattle.plan.specs.Keys.{dropped, firstOf}
 use Rattle.plan.specs.Pairs.{noLabels}
 use Rattle.plan.specs.Conclude.{orElse}
+use Rattle.plan.specs.Laws.Common.{or-none}
 use Rattle.plan.specs.Joins.{JoinSides, leadsOf, leadsClash, leadRows, rowCode, joinClash, joinRowsFrom}
-use Rattle.merging.specs.Laws.{first-is, first-most}
-use Rattle.metric_name.specs.Lenient.{labelsOf}
-use Rattle.timeseries.specs.Sides.{recordAt, labelsIn}
+use Rattle.tried_merges.specs.Laws.{first-is, first-most}
+use Rattle.record_tags.specs.Lenient.{labelsOf}
+use Rattle.side_parts.specs.Sides.{recordAt, labelsIn}
 use Rattle.join_leads.specs.declared.Checked.{Checked}
 use Rattle.join_leads.specs.declared.Checked.the-variants as C
-use Rattle.join_leads.specs.Lent.{Lent, ListedBy}
-use Rattle.join_leads.specs.Marks.{Marked}
-use Rattle.join_leads.specs.Checks.{ClashOf, CodesFit, RowFits, Noted}
-use Rattle.join_leads.proofs.Alike.{leads-among-long}
-use Rattle.join_leads.proofs.Marking.{labels-long, labels-here, someone, marked-long}
+use Rattle.lead_marks.specs.Lent.{Lent, ListedBy}
+use Rattle.lead_marks.specs.Marks.{Marked}
+use Rattle.join_leads.specs.Checks.{ClashOf, CodesFit, RowFits}
+use Rattle.noting.specs.Places.{NotedAll}
+use Rattle.lead_marks.proofs.Leaders.{leads-among-long}
+use Rattle.lead_marks.proofs.Marking.{labels-long, labels-here, someone, marked-long}
 use Rattle.join_leads.proofs.Sole.{AtMostOne, first-is-last, nowhere, sole-clash, nowhere-rows, sole-rows}
-use Rattle.key_ends.specs.Codes.{SideEnds, EndsOf, sideFirst, sideLast, side-first, side-last, ends-at}
+use Rattle.end_codes.specs.Codes.{SideEnds, EndsOf, sideFirst, sideLast, side-first, side-last, ends-at}
 use Rattle.join_plan.specs.declared.Plan.{Plan}
 use Rattle.join_plan.specs.declared.Plan.the-variants.{Rows, Failed}
 use Rattle.join_rows.specs.Sides.{OneLent, sidesOf}
-use Rattle.join_plan.specs.Plans.{planClash, NotedFirst, PlanNotes, LeadsPlanned, ManyPlanned, PlannedBy, Planned}
+use Rattle.join_plan.specs.Plans.{unlessClash, rowsBeforeClash, LeadsPlanned, ManyPlanned, Planned}
 
 -- `plan_leads`
 
 module _ (m n p : ℕ) (rows leads before : List ℕ) (x : Checked) (h : ClashOf twoOverlaps p rows leads x) where
-  pub leads-planned : x ≡ C.Done → (after : List ℕ) (c : ℕ) → Noted (leadRows m 0 leads) before n after c → LeadsPlanned m n p rows leads before after (Rows c)
+  pub leads-planned : x ≡ C.Done → (after : List ℕ) (c : ℕ) → NotedAll (leadRows m 0 leads) n before after c → LeadsPlanned m n p rows leads before after (Rows c)
   leads-planned e after c k = record {
     clash = λ side. h .each side ∙ rw e;
     notes = record {
       noted = λ d f. (let z : c ≡ d = cc in rw (← z) k);
       stopped = λ d i f. absurd (let z : _≡_ {A = ℕ} 0 1 = cc in omega arith);
-      long = ap length (k .stored) ∙ length-sets before n (leadRows m 0 leads);
+      long = ap length (k .content) ∙ length-sets before n (leadRows m 0 leads);
     };
   }
 
@@ -57,7 +59,7 @@ module _ (m n p : ℕ) (rows leads before : List ℕ) (x : Checked) (h : ClashOf
     clash = λ side. h .each side ∙ rw e;
     notes = record {
       noted = λ d f. absurd (let z : _≡_ {A = ℕ} 0 1 = cc in omega arith);
-      stopped = λ d j f. record { first = []; rest = leadRows m 0 leads; parted = refl; stored = refl };
+      stopped = λ d j f. refl;
       long = refl;
     };
   }
@@ -100,7 +102,7 @@ module _ (keys : List ℕ) (k c : ℕ) (ends : EndsOf keys k c) (first : ℕ) (h
 
 module _ (p : ℕ) (array at keys rows : List ℕ) (one : OneLent p array at keys rows) (join skip : Names) (rec : List ℕ) (m k n : ℕ) where
   -- where the key has at most one series on the one side, its rows are those noted
-  sole-planned : AtMostOne keys k → (before after : List ℕ) (c : ℕ) → ((q : Query) → Noted (leadRows m 0 (leadsOf q (labelsOf rec) k keys (labelsIn array at))) before n after c)
+  sole-planned : AtMostOne keys k → (before after : List ℕ) (c : ℕ) → ((q : Query) → NotedAll (leadRows m 0 (leadsOf q (labelsOf rec) k keys (labelsIn array at))) n before after c)
       → ManyPlanned join skip rec m k n p array at keys rows before after (Rows c)
   sole-planned sole before after c h = record {
     each = λ q g. record {
@@ -108,7 +110,7 @@ module _ (p : ℕ) (array at keys rows : List ℕ) (one : OneLent p array at key
       notes = record {
         noted = λ d f. (let z : c ≡ d = cc in rw (← z) (h q));
         stopped = λ d i f. absurd (let z : _≡_ {A = ℕ} 0 1 = cc in omega arith);
-        long = ap length (h q .stored) ∙ length-sets before n (leadRows m 0 (leadsOf q (labelsOf rec) k keys (labelsIn array at)));
+        long = ap length (h q .content) ∙ length-sets before n (leadRows m 0 (leadsOf q (labelsOf rec) k keys (labelsIn array at)));
       };
     };
   }
@@ -118,9 +120,9 @@ module _ (p : ℕ) (array at keys rows : List ℕ) (one : OneLent p array at key
     none-planned before e =
         let absent : length keys ≤ firstOf keys k = omega (arith, is-first keys k c ends first hf, e) in
         sole-planned (nowhere keys k absent) before before n
-        (λ q. rw (nowhere-rows q (labelsOf rec) k keys (labelsIn array at) (labels-long array at keys (one .lent)) (one .lent .few) (nowhere keys k absent) m absent) (record { stored = refl; count = omega arith }))
+        (λ q. rw (nowhere-rows q (labelsOf rec) k keys (labelsIn array at) (labels-long array at keys (one .lent)) (one .lent .few) (nowhere keys k absent) m absent) (record { content = refl; count = omega arith }))
 
-    pub one-planned : (first ≡ length keys → ⊥) → (last : ℕ) → last ≡ sideLast c → first ≡ last → (before after : List ℕ) (r : ℕ) → Noted (rowCode m first ∷ []) before n after r → ManyPlanned join skip rec m k n p array at keys rows before after (Rows r)
+    pub one-planned : (first ≡ length keys → ⊥) → (last : ℕ) → last ≡ sideLast c → first ≡ last → (before after : List ℕ) (r : ℕ) → NotedAll (rowCode m first ∷ []) n before after r → ManyPlanned join skip rec m k n p array at keys rows before after (Rows r)
     one-planned f last hl e before after r noted =
         let is = is-first keys k c ends first hf in
         let inside = first-inside keys k c ends first hf f in
@@ -130,18 +132,11 @@ module _ (p : ℕ) (array at keys rows : List ℕ) (one : OneLent p array at key
         (λ q. rw (sole-rows q (labelsOf rec) k keys (labelsIn array at) (labels-long array at keys (one .lent)) (one .lent .few) sole m first is key inside) noted)
 
 -- the front of an array as a row of its own
-pub front-long : (p : ℕ) (l : List ℕ) → p ≤ length l → p ≡ length (take p l)
-front-long p l h = sym (length-take-le p l h)
-
 -- `plan_join`
 
 pub two-overlaps : (q : Query) → allowedOverlaps q ≡ twoOverlaps
 unfolding allowedOverlaps
 two-overlaps q = refl
-
-sets-append : (l : List ℕ) (i : ℕ) (xs ys : List ℕ) → sets l i (xs ++ ys) ≡ sets (sets l i xs) (i + length xs) ys
-sets-append l i [] ys = let e : i + 0 ≡ i = omega arith in rw e
-sets-append l i (x ∷ xs) ys = let e : i + suc (length xs) ≡ suc i + length xs = omega arith in rw e (sets-append (set l i x) (suc i) xs ys)
 
 lead-rows-few : (m o : ℕ) (leads : List ℕ) → length (leadRows m o leads) ≤ length leads
 unfolding leadRows
@@ -159,10 +154,11 @@ record PlanRest (q : Query) (many : Side) (s : JoinSides) (ks : List ℕ) (ls : 
   rows : sofar ++ joinRowsFrom q s i (drop i ks) (drop i ls) ≡ joinRowsFrom q s 0 ks ls
   stored : list ≡ sets before 0 sofar
   count : n ≡ length sofar
+  first : sofar ++ rowsBeforeClash q many s i (drop i ks) (drop i ls) ≡ rowsBeforeClash q many s 0 ks ls
 
 module _ (q : Query) (many : Side) (s : JoinSides) (ks : List ℕ) (ls : List Labels) (before : List ℕ) where
   rest-starts : PlanRest q many s ks ls before before 0 0
-  rest-starts = record { clash = refl; sofar = []; rows = refl; stored = refl; count = refl }
+  rest-starts = record { clash = refl; sofar = []; rows = refl; stored = refl; count = refl; first = refl }
 
   clash-test : (k : ℕ) (xs : List ℕ) (l : Labels) (ms : List Labels) → joinClash q many s (k ∷ xs) (l ∷ ms)
       ≡ orElse (cond (eqb k dropped) none (leadsClash (allowedOverlaps q) (s .points) (s .oneRows) (other many) (leadsOf q l k (s .oneKeys) (s .oneLabels)) 0 (leadsOf q l k (s .oneKeys) (s .oneLabels)))) (joinClash q many s xs ms)
@@ -181,6 +177,13 @@ module _ (q : Query) (many : Side) (s : JoinSides) (ks : List ℕ) (ls : List La
   unfolding joinRowsFrom
   rows-none m ms = refl
 
+  before-test : (m k : ℕ) (xs : List ℕ) (l : Labels) (ms : List Labels) → rowsBeforeClash q many s m (k ∷ xs) (l ∷ ms)
+      ≡ unlessClash (cond (eqb k dropped) none (leadsClash (allowedOverlaps q) (s .points) (s .oneRows) (other many) (leadsOf q l k (s .oneKeys) (s .oneLabels)) 0 (leadsOf q l k (s .oneKeys) (s .oneLabels))))
+      (cond (eqb k dropped) [] (leadRows m 0 (leadsOf q l k (s .oneKeys) (s .oneLabels))) ++ rowsBeforeClash q many s (suc m) xs ms)
+  unfolding rowsBeforeClash
+  before-test m k xs l ms =
+      rw (clash-test k [] l [], rows-test m k [] l [], clash-none [], rows-none (suc m) []) (rw (or-none, append-nil))
+
   module _ (list : List ℕ) (n i : ℕ) (t : PlanRest q many s ks ls before list n i) where
     module _ (h : i < length ks) (g : i < length ls) (k : ℕ) (l : Labels) (hk : k ≡ getD ks i 0) (hl : getD ls i noLabels ≡ l) where
       abbrev leads : List ℕ
@@ -192,6 +195,11 @@ module _ (q : Query) (many : Side) (s : JoinSides) (ks : List ℕ) (ls : List La
       rows-step : joinRowsFrom q s i (drop i ks) (drop i ls) ≡ cond (eqb k dropped) [] (leadRows i 0 leads) ++ joinRowsFrom q s (i + 1) (drop (i + 1) ks) (drop (i + 1) ls)
       rows-step = rw (drop-cons ks i 0 h, drop-cons ls i noLabels g, ← hk, hl, add-one i) (rows-test i k (drop (suc i) ks) l (drop (suc i) ls))
 
+      before-step : rowsBeforeClash q many s i (drop i ks) (drop i ls)
+          ≡ unlessClash (cond (eqb k dropped) none (leadsClash twoOverlaps (s .points) (s .oneRows) (other many) leads 0 leads))
+          (cond (eqb k dropped) [] (leadRows i 0 leads) ++ rowsBeforeClash q many s (i + 1) (drop (i + 1) ks) (drop (i + 1) ls))
+      before-step = rw (drop-cons ks i 0 h, drop-cons ls i noLabels g, ← hk, hl, add-one i, ← two-overlaps q) (before-test i k (drop (suc i) ks) l (drop (suc i) ls))
+
       rest-skip : k ≡ dropped → PlanRest q many s ks ls before list n (i + 1)
       rest-skip e = record {
         clash = t .clash ∙ clash-step ∙ rw (eq-eqb k dropped e);
@@ -199,32 +207,27 @@ module _ (q : Query) (many : Side) (s : JoinSides) (ks : List ℕ) (ls : List La
         rows = ap (λ (x : List ℕ). t .sofar ++ x) (sym (rows-step ∙ rw (eq-eqb k dropped e))) ∙ t .rows;
         stored = t .stored;
         count = t .count;
+        first = ap (λ (x : List ℕ). t .sofar ++ x) (sym (before-step ∙ rw (eq-eqb k dropped e))) ∙ t .first;
       }
 
       module _ (f : k ≡ dropped → ⊥) where
-        rest-rows : leadsClash twoOverlaps (s .points) (s .oneRows) (other many) leads 0 leads ≡ none → (after : List ℕ) (c : ℕ) → Noted (leadRows i 0 leads) list n after c → PlanRest q many s ks ls before after c (i + 1)
+        rest-rows : leadsClash twoOverlaps (s .points) (s .oneRows) (other many) leads 0 leads ≡ none → (after : List ℕ) (c : ℕ) → NotedAll (leadRows i 0 leads) n list after c → PlanRest q many s ks ls before after c (i + 1)
         rest-rows e after c w = record {
           clash = t .clash ∙ clash-step ∙ rw (ne-eqb k dropped f, e);
           sofar = t .sofar ++ leadRows i 0 leads;
           rows = append-assoc (t .sofar) (leadRows i 0 leads) (joinRowsFrom q s (i + 1) (drop (i + 1) ks) (drop (i + 1) ls))
               ∙ ap (λ (x : List ℕ). t .sofar ++ x) (sym (rows-step ∙ rw (ne-eqb k dropped f))) ∙ t .rows;
-          stored = (let z : 0 + length (t .sofar) ≡ length (t .sofar) = omega arith in w .stored ∙ rw (t .stored, t .count, ← z) (sym (sets-append before 0 (t .sofar) (leadRows i 0 leads))));
+          stored = (let z : 0 + length (t .sofar) ≡ length (t .sofar) = omega arith in w .content ∙ rw (t .stored, t .count, ← z) (sym (sets-append before 0 (t .sofar) (leadRows i 0 leads))));
           count = w .count ∙ rw (t .count) (sym (length-append (t .sofar) (leadRows i 0 leads)));
+          first = append-assoc (t .sofar) (leadRows i 0 leads) (rowsBeforeClash q many s (i + 1) (drop (i + 1) ks) (drop (i + 1) ls))
+              ∙ ap (λ (x : List ℕ). t .sofar ++ x) (sym (before-step ∙ rw (ne-eqb k dropped f, e))) ∙ t .first;
         }
 
-        -- the rows noted before a clash are the first of all
-        rest-stopped : (after : List ℕ) → NotedFirst (leadRows i 0 leads) list n after → NotedFirst (joinRowsFrom q s 0 ks ls) before 0 after
-        rest-stopped after w =
-            let later : List ℕ = joinRowsFrom q s (i + 1) (drop (i + 1) ks) (drop (i + 1) ls) in
-            let z : 0 + length (t .sofar) ≡ length (t .sofar) = omega arith in
-            record {
-              first = t .sofar ++ w .first;
-              rest = w .rest ++ later;
-              parted = append-assoc (t .sofar) (w .first) (w .rest ++ later)
-                  ∙ ap (λ (x : List ℕ). t .sofar ++ x) (sym (append-assoc (w .first) (w .rest) later) ∙ ap (λ (x : List ℕ). x ++ later) (w .parted) ∙ sym (rows-step ∙ rw (ne-eqb k dropped f)))
-                  ∙ t .rows;
-              stored = w .stored ∙ rw (t .stored, t .count, ← z) (sym (sets-append before 0 (t .sofar) (w .first)));
-            }
+        -- at a clash the rows of the places before are noted
+        rest-stopped : (d : Duplicate) → leadsClash twoOverlaps (s .points) (s .oneRows) (other many) leads 0 leads ≡ some d → list ≡ sets before 0 (rowsBeforeClash q many s 0 ks ls)
+        rest-stopped d e =
+            let none-more : rowsBeforeClash q many s i (drop i ks) (drop i ls) ≡ [] = before-step ∙ rw (ne-eqb k dropped f, e) in
+            t .stored ∙ ap (sets before 0) (sym (append-nil (t .sofar)) ∙ ap (λ (x : List ℕ). t .sofar ++ x) (sym none-more) ∙ t .first)
 
         rest-failed : (d : Duplicate) → leadsClash twoOverlaps (s .points) (s .oneRows) (other many) leads 0 leads ≡ some d → joinClash q many s ks ls ≡ some d
         rest-failed d e = t .clash ∙ clash-step ∙ rw (ne-eqb k dropped f, e)
@@ -236,8 +239,8 @@ module _ (q : Query) (many : Side) (s : JoinSides) (ks : List ℕ) (ls : List La
       end-rows : t .sofar ≡ joinRowsFrom q s 0 ks ls
       end-rows = sym (append-nil (t .sofar)) ∙ ap (λ (x : List ℕ). t .sofar ++ x) (sym (rw (drop-of-length-le ks h) (rows-none i (drop i ls)))) ∙ t .rows
 
-      rest-noted : Noted (joinRowsFrom q s 0 ks ls) before 0 list n
-      rest-noted = record { stored = t .stored ∙ ap (sets before 0) end-rows; count = t .count ∙ ap length end-rows ∙ omega arith }
+      rest-noted : NotedAll (joinRowsFrom q s 0 ks ls) 0 before list n
+      rest-noted = record { content = t .stored ∙ ap (sets before 0) end-rows; count = t .count ∙ ap length end-rows ∙ omega arith }
 
 pub record Planning (join skip : Names) (p : ℕ) (ma mt mk a t k r before list : List ℕ) (n i : ℕ) : Type 0 where
   pub within : i ≤ length mk
@@ -309,12 +312,12 @@ module _ (join skip : Names) (p : ℕ) (ma mt mk a t k r before : List ℕ) wher
           planning-failed kept failed e = record {
             each = λ q g many mr.
                 let l = planned .each q g in
+                let d : Duplicate = record { kept = record { side = other many; number = kept }; failed = record { side = other many; number = failed } } in
                 record {
-                  clash = rest-failed q many (sidesOf p ma mt mk mr a t k r) mk (labelsIn ma mt) before list n i (w .each q g many mr) h inside key (labelsOf x) hk here f
-                      (record { kept = record { side = other many; number = kept }; failed = record { side = other many; number = failed } }) (l .clash (other many) ∙ rw e);
+                  clash = rest-failed q many (sidesOf p ma mt mk mr a t k r) mk (labelsIn ma mt) before list n i (w .each q g many mr) h inside key (labelsOf x) hk here f d (l .clash (other many) ∙ rw e);
                   notes = record {
                     noted = λ d z. absurd (let y : _≡_ {A = ℕ} 0 1 = cc in omega arith);
-                    stopped = λ _ _ _. rest-stopped q many (sidesOf p ma mt mk mr a t k r) mk (labelsIn ma mt) before list n i (w .each q g many mr) h inside key (labelsOf x) hk here f after (l .notes .stopped kept failed e);
+                    stopped = λ _ _ _. l .notes .stopped kept failed e ∙ rest-stopped q many (sidesOf p ma mt mk mr a t k r) mk (labelsIn ma mt) before list n i (w .each q g many mr) h inside key (labelsOf x) hk here f d (l .clash (other many) ∙ rw e);
                     long = after-long;
                   };
                 };

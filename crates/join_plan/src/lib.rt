@@ -5,10 +5,10 @@ ghost use Prim.Native.Nat.{_+_, _*_, _≤_, _<_};
 ghost use lib.ListN.{length};
 ghost use Rattle.model.specs.Labels.{WellFormed};
 ghost use Rattle.labels.specs.Names.{namesOf};
-ghost use Rattle.metric_name.specs.Lenient.{labelsOf};
-ghost use Rattle.key_ends.specs.Codes.{SideEnds, EndsOf};
-ghost use Rattle.join_leads.specs.Lent.{Lent};
-ghost use Rattle.join_leads.specs.Marks.{Marked};
+ghost use Rattle.record_tags.specs.Lenient.{labelsOf};
+ghost use Rattle.end_codes.specs.Codes.{SideEnds, EndsOf};
+ghost use Rattle.lead_marks.specs.Lent.{Lent};
+ghost use Rattle.lead_marks.specs.Marks.{Marked};
 ghost use Rattle.join_leads.specs.Checks.{CodesFit};
 ghost use Rattle.join_rows.specs.Sides.{JoinLent, OneLent};
 ghost use Rattle.join_plan.specs.Plans.{LeadsPlanned, ManyPlanned, Planned};
@@ -33,7 +33,7 @@ fn plan_leads(
     requires narrow { ⌜ p ≤ 1024 ⌝ }
     ensures { λ r. ⌜ LeadsPlanned m n p (now (rows .entry)) (now (leads .entry)) (now (list .entry)) (now (list .exit)) r ⌝ }
 {
-    match join_leads::check_leads(rows, p, leads, join_rows::ALLOWED) {
+    match join_leads::check_leads(rows, p, leads, merge::ALLOWED_OVERLAPS) {
         Checked::Done => Plan::Rows(join_leads::list_leads(leads, m, n, list)),
         Checked::Failed { kept, failed } => Plan::Failed { kept, failed },
     }
@@ -62,7 +62,7 @@ fn plan_marked<'a>(
     ensures { λ r. ⌜ ManyPlanned (namesOf (now (join .entry))) (namesOf (now (skip .entry))) (now (rec .entry)) m k n p (now (array .entry)) (now (at .entry)) (now (keys .entry)) (now (rows .entry)) (now (list .entry)) (now (list .exit)) r ⌝ }
     ensures { λ _. ⌜ Marked (namesOf (now (join .entry))) (namesOf (now (skip .entry))) (now (rec .entry)) k (now (array .entry)) (now (at .entry)) (now (keys .entry)) (now (leads .exit)) ⌝ }
 {
-    join_leads::mark_leads(rec, k, array, at, keys, join, skip, leads);
+    lead_marks::mark_leads(rec, k, array, at, keys, join, skip, leads);
     plan_leads(m, n, p, rows, leads, list)
 }
 
@@ -126,11 +126,11 @@ fn plan_place<'a>(
     requires ends { ⌜ EndsOf (now keys) k c ⌝ }
     ensures { λ r. ⌜ ManyPlanned (namesOf (now (join .entry))) (namesOf (now (skip .entry))) (now (rec .entry)) m k n p (now (array .entry)) (now (at .entry)) (now (keys .entry)) (now (rows .entry)) (now (list .entry)) (now (list .exit)) r ⌝ }
 {
-    let first = key_ends::side_first(c);
+    let first = end_codes::side_first(c);
     if first == keys.len() {
         return Plan::Rows(n);
     }
-    if first == key_ends::side_last(c) {
+    if first == end_codes::side_last(c) {
         return Plan::Rows(join_leads::list_lead(m, first, n, list));
     }
     plan_many(rec, m, k, n, p, array, at, keys, rows, join, skip, list)
@@ -163,7 +163,7 @@ pub fn plan_join<'a>(
         let k = many_keys[m];
         i += 1;
         if k != key_places::DROPPED {
-            let rec = timeseries::record(many_array, many_at, m);
+            let rec = side_parts::record(many_array, many_at, m);
             let c = ends[m];
             match plan_place(rec, m, k, c, n, p, array, at, keys, rows, join, skip, list) {
                 Plan::Rows(count) => n = count,

@@ -8,12 +8,12 @@ use Rattle.model.specs.Labels.{WellFormed}
 use Rattle.model.specs.Edits.{Names}
 use Rattle.model.specs.Row.{twoOverlaps}
 use Rattle.plan.specs.Merging.{rowAt}
-use Rattle.metric_name.specs.Lenient.{labelsOf}
-use Rattle.timeseries.specs.Sides.{recordAt, labelsIn}
-use Rattle.key_ends.specs.Codes.{SideEnds, sideFirst, sideLast, side-first, side-last, ends-at}
-use Rattle.join_leads.specs.Lent.{Lent}
-use Rattle.join_leads.specs.Marks.{Marked}
-use Rattle.join_leads.proofs.Marking.{marked-long, labels-long, someone}
+use Rattle.record_tags.specs.Lenient.{labelsOf}
+use Rattle.side_parts.specs.Sides.{recordAt, labelsIn}
+use Rattle.end_codes.specs.Codes.{SideEnds, sideFirst, sideLast, side-first, side-last, ends-at}
+use Rattle.lead_marks.specs.Lent.{Lent}
+use Rattle.lead_marks.specs.Marks.{Marked}
+use Rattle.lead_marks.proofs.Marking.{marked-long, labels-long, someone}
 use Rattle.join_leads.proofs.Sole.{first-is-last, sole-merge}
 use Rattle.join_rows.specs.declared.Work.{Work}
 use Rattle.join_rows.specs.Sides.{JoinLent}

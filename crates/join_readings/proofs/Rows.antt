@@ -2,19 +2,14 @@
 use Prim.Native.Nat.{ℕ, _+_, _-_, _*_, _≤_, _<_}
 use mathlib.Core.Path.{_≡_, refl, sym, _∙_}
 use mathlib.Core.List.{List}
-use native.Mathlib.Nat.{mul-le-mul}
 use native.Mathlib.Omega.{arith}
-use mir.Syntax.{w64}
-use mir.Val.{Fits}
-use lib.ListN.{length, getD, take, drop, length-take, length-drop}
-use lib.Seq.{length-take-le}
+use lib.ListN.{length, getD, take, drop}
 use borrow.Rule.Slice.PartMut.{putMid}
-use Rattle.model.specs.Limits.{maxSeries, maxPoints}
 use Rattle.model.specs.Edits.{Names}
 use Rattle.model.specs.Query.{Query}
-use Rattle.answers.proofs.Rows.{RowsWriting, rows-start, rows-length, row-within, rows-turn, rows-end}
-use Rattle.join_leads.specs.Lent.{ListedBy}
-use Rattle.join_leads.proofs.Marking.{someone}
+use Rattle.answers.proofs.Rows.{RowsWriting, rows-start, rows-length, row-within, part-wide, rows-turn, rows-end}
+use Rattle.lead_marks.specs.Lent.{ListedBy}
+use Rattle.lead_marks.proofs.Marking.{someone}
 use Rattle.join_rows.specs.declared.Work.{Work}
 use Rattle.join_rows.specs.Sides.{JoinLent}
 use Rattle.join_rows.specs.Codes.{CodeIn}
@@ -26,9 +21,6 @@ pub record RowsDone (w : Work) (join skip : Names) (p : ℕ) (ma mt mk mr a t k 
   pub asked : JoinAsked join skip p ma mt mk mr a t k r ends list
   pub led : LeadsFor join skip marked ma mt mk a t k leads
   pub each : (q : Query) → ListedBy q join skip → RowsWriting (codeReadings w q p ma mt mk mr a t k r) p list before n out
-
-product-few : (n m p : ℕ) → n < m → m ≤ maxSeries → p ≤ maxPoints → n * p ≤ 524288
-product-few n m p h k q = let few : n ≤ 512 = omega arith in let most : n * p ≤ 512 * 1024 = mul-le-mul few q in omega arith
 
 module _ (w : Work) (join skip : Names) (p : ℕ) (ma mt mk mr a t k r ends list before : List ℕ) where
   pub rows-begin : (leads : List ℕ) → JoinAsked join skip p ma mt mk mr a t k r ends list → length leads ≡ length k → length list * p ≤ length before → RowsDone w join skip p ma mt mk mr a t k r ends list before leads before 512 0
@@ -53,32 +45,20 @@ module _ (w : Work) (join skip : Names) (p : ℕ) (ma mt mk mr a t k r ends list
     rows-put h = record { each = λ q g. rows-end (codeReadings w q p ma mt mk mr a t k r) p list before n out (inv .each q g) h }
 
     module _ (h : n < length list) where
-      few : n * p ≤ 524288
-      few = product-few n (length list) p h (inv .asked .asked .few) (inv .asked .lent .one .narrow)
-
-      pub from-fits : Fits w64 (n * p)
-      from-fits = omega (arith, few)
-
-      pub to-fits : Fits w64 (n * p + p)
-      to-fits = omega (arith, few, inv .asked .lent .one .narrow)
-
-      pub bytes-fit : Fits w64 (n * p * 8)
-      bytes-fit = omega (arith, few)
-
       pub part-within : n * p + p ≤ length out
       part-within = row-within (codeReadings w (someone join skip .q) p ma mt mk mr a t k r) p list before n out some-rows h
 
-      part-wide : length (take (n * p + p - n * p) (drop (n * p) out)) ≡ p
-      part-wide = simp (length-take, length-drop) (omega (arith, part-within))
+      wide : length (take (n * p + p - n * p) (drop (n * p) out)) ≡ p
+      wide = part-wide (codeReadings w (someone join skip .q) p ma mt mk mr a t k r) p list before n out some-rows h
 
       pub part-lent : JoinLent (length (take (n * p + p - n * p) (drop (n * p) out))) ma mt mk mr a t k r
-      part-lent = rw part-wide (inv .asked .lent)
+      part-lent = rw wide (inv .asked .lent)
 
       pub code-in : CodeIn mk k (getD list n 0)
       code-in = inv .asked .asked .codes n h
 
       pub code-merges : CodeMerges join skip (length (take (n * p + p - n * p) (drop (n * p) out))) ma mt mk a t k r (getD list n 0)
-      code-merges = rw part-wide (inv .asked .asked .merge n h)
+      code-merges = rw wide (inv .asked .asked .merge n h)
 
       pub rows-next : (leads′ y : List ℕ) (marked′ : ℕ) → LeadsFor join skip marked′ ma mt mk a t k leads′
           → CodeRow w join skip (length (take (n * p + p - n * p) (drop (n * p) out))) ma mt mk mr a t k r (getD list n 0) y
@@ -86,7 +66,7 @@ module _ (w : Work) (join skip : Names) (p : ℕ) (ma mt mk mr a t k r ends list
       rows-next leads′ y marked′ led row = record {
         asked = inv .asked;
         led = led;
-        each = λ q g. rows-turn (codeReadings w q p ma mt mk mr a t k r) p list before n out (inv .each q g) h y (rw part-wide at (row .each q g));
+        each = λ q g. rows-turn (codeReadings w q p ma mt mk mr a t k r) p list before n out (inv .each q g) h y (rw wide at (row .each q g));
       }
 
     pub leads-left : LeadsFor join skip marked ma mt mk a t k leads
@@ -94,6 +74,3 @@ module _ (w : Work) (join skip : Names) (p : ℕ) (ma mt mk mr a t k r ends list
 
     pub leads-long : (leads₀ : List ℕ) → length leads₀ ≡ length k → length leads ≡ length leads₀
     leads-long leads₀ e = inv .led .long ∙ sym e
-
-pub front-long : (n : ℕ) (l : List ℕ) → n ≤ length l → n ≡ length (take n l)
-front-long n l h = sym (length-take-le n l h)

@@ -10,12 +10,12 @@ use Rattle.model.specs.Query.{Query}
 use Rattle.model.specs.Row.{twoOverlaps}
 use Rattle.plan.specs.Merging.{RowMerge, row, mergeLead, rowAt, rowOf}
 use Rattle.plan.specs.Joins.{leadsOf}
-use Rattle.metric_name.specs.Lenient.{labelsOf}
-use Rattle.timeseries.specs.Sides.{recordAt, labelsIn}
+use Rattle.record_tags.specs.Lenient.{labelsOf}
+use Rattle.side_parts.specs.Sides.{recordAt, labelsIn}
 use Rattle.answers.specs.Outcomes.{startingWith}
-use Rattle.key_ends.specs.Codes.{SideEnds}
-use Rattle.join_leads.specs.Lent.{ListedBy}
-use Rattle.join_leads.specs.Marks.{Marked}
+use Rattle.end_codes.specs.Codes.{SideEnds}
+use Rattle.lead_marks.specs.Lent.{ListedBy}
+use Rattle.lead_marks.specs.Marks.{Marked}
 use Rattle.join_rows.specs.declared.Work.{Work}
 use Rattle.join_rows.specs.Sides.{JoinLent}
 use Rattle.join_rows.specs.Codes.{CodeIn}

@@ -4,8 +4,8 @@ ghost use mathlib.Core.Path.{_≡_};
 ghost use Prim.Native.Nat.{_*_, _/_, _≤_, _<_};
 ghost use lib.ListN.{length};
 ghost use Rattle.labels.specs.Names.{namesOf};
-ghost use Rattle.key_ends.specs.Codes.{SideEnds};
-ghost use Rattle.join_leads.specs.Lent.{Lent};
+ghost use Rattle.end_codes.specs.Codes.{SideEnds};
+ghost use Rattle.lead_marks.specs.Lent.{Lent};
 ghost use Rattle.join_rows.specs.Sides.{JoinLent};
 ghost use Rattle.join_rows.specs.Codes.{CodeIn};
 ghost use Rattle.join_readings.specs.Readings.{LeadsFor, CodeRow, CodeMerges, JoinAsked, RowsPut};
@@ -33,8 +33,8 @@ fn leads_for<'a>(
     if marked == m {
         return;
     }
-    let rec = timeseries::record(many_array, many_at, m);
-    join_leads::mark_leads(rec, many_keys[m], array, at, keys, join, skip, leads);
+    let rec = side_parts::record(many_array, many_at, m);
+    lead_marks::mark_leads(rec, many_keys[m], array, at, keys, join, skip, leads);
 }
 
 // Writes the readings of the code x, by its leaders. They are marked anew only for another many-side place than before.
@@ -79,7 +79,7 @@ fn put_led_row<'a>(
     );
     join_rows::lead_row(
         w,
-        timeseries::row(many_rows, p, m),
+        side_parts::row(many_rows, p, m),
         rows,
         leads,
         x % 512,
@@ -116,7 +116,7 @@ fn put_code_row<'a>(
 {
     let m = x / 512;
     let c = ends[m];
-    if key_ends::side_first(c) == key_ends::side_last(c) {
+    if end_codes::side_first(c) == end_codes::side_last(c) {
         join_rows::single_row(w, x, many_rows, rows, out);
         return marked;
     }

@@ -3,25 +3,22 @@ use Prim.Native.Nat.{ℕ, _+_, _-_, _*_, _/_, _%_, _≤_}
 use mathlib.Core.Path.{_≡_, ap}
 use mathlib.Core.List.{List}
 use native.Mathlib.Omega.{arith}
-use lib.ListN.{length, getD, take, drop, length-take, length-drop}
+use lib.ListN.{length, take, drop}
 use Rattle.model.specs.Limits.{maxTags, maxLabelBytes}
 use Rattle.model.specs.Edits.{Names}
 use Rattle.model.specs.Record.{encode}
 use Rattle.naming.specs.declared.Naming.{Naming}
 use Rattle.edited_tags.specs.Streams.{editedTags}
 use Rattle.set_tags.specs.Records.{edited}
-use Rattle.timeseries.specs.Sides.{recordAt}
+use Rattle.side_parts.specs.Sides.{recordAt}
+use Rattle.side_parts.specs.SideLaws.{record-within}
 use Rattle.join_rows.specs.Sides.{JoinLent}
 use Rattle.join_rows.specs.Codes.{CodeIn, rowLabels}
 use Rattle.join_rows.proofs.Rows.{row-inside, row-wide}
 
--- a record is no longer than its array
+-- a record of an array within the limit is within it
 pub record-short : (array at : List ℕ) (i : ℕ) (x : List ℕ) → x ≡ recordAt array at i → length array ≤ maxLabelBytes → length x ≤ maxLabelBytes
-unfolding recordAt
-record-short array at i x e h =
-    let d = drop (getD at i 0) array in
-    let n = getD at (i + 1) 0 - getD at i 0 in
-    omega (arith, ap length e, length-take n d, length-drop (getD at i 0) array)
+record-short array at i x e h = omega (arith, ap length e, record-within array at i)
 
 module _ (p : ℕ) (ma mt mk mr a t k r : List ℕ) (lent : JoinLent p ma mt mk mr a t k r) (x : ℕ) (code : CodeIn mk k x) where
   pub many-row-inside : x / 512 * p + p ≤ length mr

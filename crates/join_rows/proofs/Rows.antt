@@ -3,13 +3,12 @@ use Prim.Native.Nat.{ℕ, _+_, _*_, _≤_, _<_}
 use mathlib.Core.Path.{_≡_, sym, ap, _∙_}
 use mathlib.Core.Bool.{true, false}
 use mathlib.Core.List.{List}
-use native.Mathlib.Nat.{suc-mul, mul-le-mul-right}
 use native.Mathlib.Omega.{arith}
-use lib.ListN.{length, take, drop, length-drop}
-use lib.Seq.{length-take-le}
+use lib.ListN.{length, take, drop}
 use Rattle.model.specs.Reading.{scalarOp}
 use Rattle.model.specs.Row.{zipWith, twoOverlaps}
 use Rattle.plan.specs.Merging.{row, mergeLead}
+use Rattle.answers.proofs.Rows.{row-in, row-width}
 use Rattle.key_places.specs.Places.{lastOf}
 use Rattle.merging.specs.declared.Merges.{Merges}
 use Rattle.merging.specs.declared.Merges.the-variants as M
@@ -28,9 +27,6 @@ module _ (w : Work) (many one out : List ℕ) where
   applied-right h e = rw h e
 
 -- `single_row`
-
-pub part-wide : (p : ℕ) (rows : List ℕ) (o : ℕ) → o * p + p ≤ length rows → (x : List ℕ) → x ≡ take p (drop (o * p) rows) → length x ≡ p
-part-wide p rows o h x e = ap length e ∙ length-take-le p (drop (o * p) rows) (omega (arith, h, length-drop (o * p) rows))
 
 pub single-made : (w : Work) (many one many₀ one₀ out : List ℕ) → many ≡ many₀ → one ≡ one₀ → out ≡ worked w many one → out ≡ worked w many₀ one₀
 single-made w many one many₀ one₀ out hm ho h = rw (hm, ho) at h
@@ -59,13 +55,10 @@ work-held before rows leads out₀ e h = rw e h
 
 module _ (p : ℕ) (rows : List ℕ) (o n : ℕ) (h : o < n) (k : n * p ≤ length rows) where
   pub row-inside : o * p + p ≤ length rows
-  row-inside = let z : o * p + p ≤ n * p = rw (← suc-mul) (mul-le-mul-right p h) in omega (arith, z, k)
+  row-inside = omega (arith, row-in o n p h)
 
   pub row-wide : (x : List ℕ) → x ≡ take p (drop (o * p) rows) → length x ≡ p
-  row-wide x e = part-wide p rows o row-inside x e
+  row-wide x e = row-width p rows x o row-inside e
 
 pub alone-made : (w : Work) (many rows leads : List ℕ) (o p l : ℕ) → l ≡ lastOf leads o → l ≡ o → (x out : List ℕ) → x ≡ take p (drop (o * p) rows) → out ≡ worked w many x → out ≡ worked w many (leadRow p rows leads o)
 alone-made w many rows leads o p l e f x out hx h = h ∙ rw (lead-alone twoOverlaps p rows leads o (sym e ∙ f), hx)
-
-pub front-long : (p : ℕ) (l : List ℕ) → p ≤ length l → p ≡ length (take p l)
-front-long p l h = sym (length-take-le p l h)

@@ -8,7 +8,7 @@ use Rattle.model.specs.Edits.{Names}
 use Rattle.model.specs.Query.{Side, left, right}
 use Rattle.naming.specs.declared.Naming.{Naming}
 use Rattle.set_tags.specs.Records.{edited}
-use Rattle.timeseries.specs.Sides.{recordAt}
+use Rattle.side_parts.specs.Sides.{recordAt}
 
 -- 01: many side left for group_left, right for group_right
 abbrev pub sideOf : Bool → Side

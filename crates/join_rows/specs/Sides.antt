@@ -5,8 +5,8 @@ use mathlib.Core.List.{List}
 use lib.ListN.{length}
 use Rattle.model.specs.Limits.{maxPoints}
 use Rattle.plan.specs.Joins.{JoinSides}
-use Rattle.timeseries.specs.Sides.{labelsIn}
-use Rattle.join_leads.specs.Lent.{Lent}
+use Rattle.side_parts.specs.Sides.{labelsIn}
+use Rattle.lead_marks.specs.Lent.{Lent}
 
 -- the one side, with p readings a row
 pub record OneLent (p : ℕ) (array at keys rows : List ℕ) : Type 0 where

@@ -7,9 +7,6 @@ ghost use lib.ListN.{length};
 ghost use Rattle.plan.specs.Merging.{rowAt};
 ghost use Rattle.join_rows.specs.Written.{worked, leadRow, LeadMerges};
 
-// The overlapping places that a merge allows.
-pub const ALLOWED: usize = 2;
-
 // What is done with each pair of series: the operator, whether it gives 1 or 0; whether the many side is the left one; and who names the answer.
 pub struct Work {
     pub operator: Operator,
@@ -39,8 +36,8 @@ pub fn single_row(w: Work, x: usize, many_rows: &[u64], rows: &[u64], out: &mut 
     ensures { λ _. ⌜ now (out .exit) ≡ worked w (rowAt (length (now (out .entry))) (now («many_rows» .entry)) (x / 512)) (rowAt (length (now (out .entry))) (now (rows .entry)) (x % 512)) ⌝ }
 {
     let p = out.len();
-    let many = timeseries::row(many_rows, p, x / 512);
-    let one = timeseries::row(rows, p, x % 512);
+    let many = side_parts::row(many_rows, p, x / 512);
+    let one = side_parts::row(rows, p, x % 512);
     apply_join(w, many, one, out);
 }
 
@@ -62,7 +59,7 @@ fn merged_row(
     ensures { λ _. ⌜ now (work .exit) ≡ leadRow (length (now (out .entry))) (now (rows .entry)) (now (leads .entry)) o ⌝ }
     ensures { λ _. ⌜ now (out .exit) ≡ worked w (now (many .entry)) (leadRow (length (now (out .entry))) (now (rows .entry)) (now (leads .entry)) o) ⌝ }
 {
-    merging::merge_lead(rows, leads, o, ALLOWED, work);
+    merging::merge_lead(rows, leads, o, merge::ALLOWED_OVERLAPS, work);
     apply_join(w, many, work, out);
 }
 
@@ -78,7 +75,7 @@ pub fn lead_row(w: Work, many: &[u64], rows: &[u64], leads: &[usize], o: usize, 
     let p = out.len();
     let last = key_places::last_of(leads, o);
     if last == o {
-        apply_join(w, many, timeseries::row(rows, p, o), out);
+        apply_join(w, many, side_parts::row(rows, p, o), out);
         return;
     }
     let mut work = [0u64; 1024];

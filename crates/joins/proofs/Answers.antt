@@ -14,8 +14,8 @@ use Rattle.model.specs.Vector.{Series}
 use Rattle.semantics.specs.Call.{fit}
 use Rattle.plan.specs.Joins.{joinLabels, joinRow, joinSeries}
 use Rattle.plan.specs.Pairs.{noLabels}
-use Rattle.metric_name.specs.Lenient.{labelsOf}
-use Rattle.timeseries.specs.Sides.{recordAt, labelsIn}
+use Rattle.record_tags.specs.Lenient.{labelsOf}
+use Rattle.side_parts.specs.Sides.{recordAt, labelsIn}
 use Rattle.answers.specs.declared.Outcome.{Outcome}
 use Rattle.answers.specs.declared.Outcome.the-variants as Out
 use Rattle.answers.specs.declared.Tally.{Tally}
@@ -25,8 +25,8 @@ use Rattle.answers.specs.Outcomes.{Ran}
 use Rattle.answers.specs.Tallies.{recordsOf, TallyOf, roomOf}
 use Rattle.answers.proofs.Tallies.{records-fit, rows-fit}
 use Rattle.answers.proofs.Concluding.{ran-too-large, ran-too-long, ran-answer}
-use Rattle.join_leads.specs.Lent.{Lent, joined-labels}
-use Rattle.join_leads.proofs.Marking.{labels-here}
+use Rattle.lead_marks.specs.Lent.{Lent, joined-labels}
+use Rattle.lead_marks.proofs.Marking.{labels-here}
 use Rattle.join_rows.specs.declared.Work.{Work}
 use Rattle.join_rows.specs.Sides.{JoinLent, sidesOf}
 use Rattle.join_rows.specs.Codes.{sideOf, CodeIn, rowLabels}

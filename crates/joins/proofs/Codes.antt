@@ -2,7 +2,7 @@
 use Prim.Native.Nat.{ℕ, zero, suc, _+_, _*_, _/_, _%_, _≤_, _<_}
 use mathlib.Core.Path.{_≡_, refl, sym, ap, _∙_}
 use mathlib.Core.Bool.{Bool, true, false, cond}
-use mathlib.Core.Option.{Option, none, some}
+use mathlib.Core.Option.{none}
 use mathlib.Core.List.{List, [], _∷_, _++_}
 use native.Mathlib.Omega.{arith}
 use lib.Dec.{eqb}
@@ -12,7 +12,7 @@ use Rattle.model.specs.Lists.{All}
 use Rattle.model.specs.Labels.{Labels}
 use Rattle.model.specs.Query.{Query, Side}
 use Rattle.model.specs.Row.{twoOverlaps}
-use Rattle.semantics.specs.Events.{Duplicate}
+use Rattle.plan.specs.Laws.Common.{both-none}
 use Rattle.semantics.specs.Rules.{other}
 use Rattle.semantics.specs.Binop.{allowedOverlaps}
 use Rattle.plan.specs.Keys.{dropped}
@@ -20,10 +20,10 @@ use Rattle.plan.specs.Pairs.{noLabels}
 use Rattle.plan.specs.Conclude.{orElse}
 use Rattle.plan.specs.Merging.{RowMerge, row, failedAt, mergeLead, rowOf, clash}
 use Rattle.plan.specs.Joins.{leadsOf, leadsClash, leadRows, rowCode, joinClash, joinRowsFrom}
-use Rattle.metric_name.specs.Lenient.{labelsOf}
-use Rattle.timeseries.specs.Sides.{recordAt, labelsIn}
-use Rattle.join_leads.proofs.Alike.{leads-among-long}
-use Rattle.join_leads.proofs.Marking.{labels-long, labels-here}
+use Rattle.record_tags.specs.Lenient.{labelsOf}
+use Rattle.side_parts.specs.Sides.{recordAt, labelsIn}
+use Rattle.lead_marks.proofs.Leaders.{leads-among-long}
+use Rattle.lead_marks.proofs.Marking.{labels-long, labels-here}
 use Rattle.join_rows.specs.Sides.{JoinLent, sidesOf}
 use Rattle.join_rows.specs.Codes.{CodeIn}
 use Rattle.join_plan.proofs.Planning.{two-overlaps}
@@ -42,18 +42,10 @@ all-at P (x ∷ xs) a (suc i) h = all-at P xs (a .1) i (omega arith)
 
 -- the first of two clashes, and the second
 
-first-none : (a b : Option Duplicate) → orElse a b ≡ none → a ≡ none
-first-none none b h = refl
-first-none (some d) b h = cc
-
-second-none : (a b : Option Duplicate) → orElse a b ≡ none → b ≡ none
-second-none none b h = h
-second-none (some d) b h = absurd (let z : _≡_ {A = ℕ} 0 1 = cc in omega arith)
-
 -- merges without a clash succeed
 no-clash : (side : Side) (o : ℕ) (m : RowMerge) → clash side o m ≡ none → m ≡ row (rowOf m)
 no-clash side o (row d) h = refl
-no-clash side o (failedAt i) h = absurd (let z : _≡_ {A = ℕ} 0 1 = cc in omega arith)
+no-clash side o (failedAt i d) h = absurd (let z : _≡_ {A = ℕ} 0 1 = cc in omega arith)
 
 -- the places of a code
 
@@ -89,8 +81,8 @@ module _ (q : Query) (p : ℕ) (ma mt mk a t k r : List ℕ) (few : length k ≤
             → orElse (cond b (clash side o (mergeLead twoOverlaps p r leads o)) none) (leadsClash twoOverlaps p r side leads (suc o) rest) ≡ none
             → All (Sound q p ma mt mk a t k r) (cond b (rowCode m o ∷ leadRows m (suc o) rest) (leadRows m (suc o) rest))
         go true ih h = (
-          lead-sound o (omega (arith, e)) (no-clash side o (mergeLead twoOverlaps p r leads o) (first-none (clash side o (mergeLead twoOverlaps p r leads o)) (leadsClash twoOverlaps p r side leads (suc o) rest) h)),
-          ih (second-none (clash side o (mergeLead twoOverlaps p r leads o)) (leadsClash twoOverlaps p r side leads (suc o) rest) h),
+          lead-sound o (omega (arith, e)) (no-clash side o (mergeLead twoOverlaps p r leads o) (both-none (clash side o (mergeLead twoOverlaps p r leads o)) (leadsClash twoOverlaps p r side leads (suc o) rest) h .0)),
+          ih (both-none (clash side o (mergeLead twoOverlaps p r leads o)) (leadsClash twoOverlaps p r side leads (suc o) rest) h .1),
         )
         go false ih h = ih h
 
@@ -120,9 +112,9 @@ module _ (q : Query) (many : Side) (p : ℕ) (ma mt mk mr a t k r : List ℕ) (l
       all-append P
       (cond (eqb x dropped) [] (leadRows m 0 (leadsOf q l x k (labelsIn a t))))
       (joinRowsFrom q (sidesOf p ma mt mk mr a t k r) (suc m) ks ls)
-      (here (eqb x dropped) (first-none _ (joinClash q many (sidesOf p ma mt mk mr a t k r) ks ls) c))
+      (here (eqb x dropped) (both-none _ (joinClash q many (sidesOf p ma mt mk mr a t k r) ks ls) c .0))
       (rows-from-sound (suc m) ks ls (tails x (getD mk m 0) ks (drop (suc m) mk) key-cons) (tails l (getD (labelsIn ma mt) m noLabels) ls (drop (suc m) (labelsIn ma mt)) label-cons)
-      (second-none (cond (eqb x dropped) none (leadsClash (allowedOverlaps q) p r (other many) (leadsOf q l x k (labelsIn a t)) 0 (leadsOf q l x k (labelsIn a t)))) (joinClash q many (sidesOf p ma mt mk mr a t k r) ks ls) c))
+      (both-none (cond (eqb x dropped) none (leadsClash (allowedOverlaps q) p r (other many) (leadsOf q l x k (labelsIn a t)) 0 (leadsOf q l x k (labelsIn a t)))) (joinClash q many (sidesOf p ma mt mk mr a t k r) ks ls) c .1))
     where
       inside : m < length mk
       inside = omega (arith, ap length hk, length-drop m mk)

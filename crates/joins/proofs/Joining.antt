@@ -5,8 +5,8 @@ use mathlib.Core.Bool.{Bool, true, false}
 use mathlib.Core.Option.{Option, some}
 use mathlib.Core.List.{List, map}
 use native.Mathlib.Omega.{arith}
-use lib.ListN.{length, getD, take, drop, length-map}
-use lib.Seq.{sets-eq, take-at, length-take-le}
+use lib.ListN.{length, getD, take, length-map}
+use lib.Seq.{length-take-le}
 use Rattle.model.specs.Limits.{maxSeries}
 use Rattle.model.specs.Edits.{Names}
 use Rattle.model.specs.Query.{Query, left}
@@ -15,15 +15,16 @@ use Rattle.semantics.specs.Events.{Duplicate}
 use Rattle.semantics.specs.Rules.{other}
 use Rattle.plan.specs.Conclude.{conclude}
 use Rattle.plan.specs.Joins.{joinClash, joinRowsFrom, joinSeries}
-use Rattle.timeseries.specs.Sides.{labelsIn}
+use Rattle.side_parts.specs.Sides.{labelsIn}
 use Rattle.answers.specs.declared.Outcome.{Outcome}
 use Rattle.answers.specs.declared.Outcome.the-variants as Out
 use Rattle.answers.specs.Outcomes.{Ran}
 use Rattle.answers.proofs.Concluding.{ran-left-twice, ran-right-twice, ran-without-clash, ran-too-many}
-use Rattle.key_ends.specs.Codes.{SideEnds}
-use Rattle.join_leads.specs.Lent.{ListedBy}
-use Rattle.join_leads.specs.Checks.{Noted}
-use Rattle.join_leads.proofs.Marking.{someone}
+use Rattle.end_codes.specs.Codes.{SideEnds}
+use Rattle.lead_marks.specs.Lent.{ListedBy}
+use Rattle.noting.specs.Places.{NotedAll}
+use Rattle.noting.proofs.Noting.{noted-front}
+use Rattle.lead_marks.proofs.Marking.{someone}
 use Rattle.join_rows.specs.declared.Work.{Work}
 use Rattle.join_rows.specs.Sides.{JoinLent, sidesOf}
 use Rattle.join_rows.specs.Codes.{sideOf}
@@ -43,9 +44,6 @@ pub twice-left : (l : Bool) (k i : ℕ) → l ≡ false → Out.LeftTwice k i �
 twice-left l k i h = rw h
 
 -- `answer_rows`
-
-pub front-long : (n : ℕ) (l : List ℕ) → n ≤ length l → n ≡ length (take n l)
-front-long n l h = sym (length-take-le n l h)
 
 module _ (join skip : Names) (p : ℕ) (ma mt mk mr a t k r ends list : List ℕ) (n : ℕ) (s : RowsPlanned join skip p ma mt mk mr a t k r ends list n) where
   pub list-holds : n ≤ maxSeries → n ≤ length list
@@ -92,11 +90,8 @@ module _ (join skip : Names) (p : ℕ) (ma mt mk mr a t k r ends list : List ℕ
 
 -- `group_join`
 
-listed-rows : (rows before after : List ℕ) (n : ℕ) → Noted rows before 0 after n → length before ≡ maxSeries → n ≤ maxSeries → take n after ≡ rows
-listed-rows rows before after n w e h =
-    let few : 0 + length rows ≤ length before = omega (arith, w .count) in
-    let long : length rows ≡ n = omega (arith, w .count) in
-    rw (w .stored, sets-eq rows before 0 few) (take-at rows (drop (0 + length rows) before) n long)
+listed-rows : (rows before after : List ℕ) (n : ℕ) → NotedAll rows 0 before after n → length before ≡ maxSeries → n ≤ maxSeries → take n after ≡ rows
+listed-rows rows before after n w e h = noted-front rows before after n w (omega (arith, w .count))
 
 module _ (join skip : Names) (p : ℕ) (ma mt mk mr a t k r before after : List ℕ) (lent : JoinLent p ma mt mk mr a t k r) (v : Plan) (planned : Planned join skip p ma mt mk a t k r before after v) where
   pub rows-planned : (n : ℕ) → v ≡ Rows n → length before ≡ maxSeries → (ends : List ℕ) → SideEnds k mk ends → RowsPlanned join skip p ma mt mk mr a t k r ends after n

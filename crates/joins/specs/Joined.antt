@@ -14,13 +14,13 @@ use Rattle.semantics.specs.Call.{fit}
 use Rattle.plan.specs.Conclude.{conclude}
 use Rattle.plan.specs.Joins.{joinClash, joinRowsFrom, joinSeries}
 use Rattle.naming.specs.Namings.{namingOf}
-use Rattle.timeseries.specs.Sides.{labelsIn}
+use Rattle.side_parts.specs.Sides.{labelsIn}
 use Rattle.answers.specs.declared.Outcome.{Outcome}
 use Rattle.answers.specs.declared.Outcome.the-variants.{Answer, LeftTwice, RightTwice}
 use Rattle.answers.specs.Outcomes.{startingWith, Ran}
 use Rattle.answers.specs.Tallies.{recordsOf, someWide}
-use Rattle.key_ends.specs.Codes.{SideEnds}
-use Rattle.join_leads.specs.Lent.{ListedBy}
+use Rattle.end_codes.specs.Codes.{SideEnds}
+use Rattle.lead_marks.specs.Lent.{ListedBy}
 use Rattle.join_rows.specs.declared.Work.{Work}
 use Rattle.join_rows.specs.Sides.{JoinLent, sidesOf}
 use Rattle.join_rows.specs.Codes.{sideOf, rowLabels}

@@ -7,14 +7,12 @@ use mir.Syntax.{w64}
 use mir.Val.{Fits}
 use lib.ListN.{length, take, drop, length-drop}
 use lib.Seq.{take-all, length-take-le}
+use Rattle.model.specs.Laws.Lists.{front-long}
 use Rattle.timeseries.specs.Takes.{TakenInto}
 use Rattle.timeseries.specs.TakeLaws.{SideTaken, side-taken, taken-long}
 use Rattle.timeseries.specs.declared.Taken.{Taken}
 use Rattle.timeseries.specs.declared.Taken.the-variants as T
-use Rattle.key_cases.specs.Sides.{Side}
-
-pub front-long : (n : ℕ) (work : List ℕ) → n ≤ length work → n ≡ length (take n work)
-front-long n work h = sym (length-take-le n work h)
+use Rattle.key_cases.specs.Sides.{Side, SideAt}
 
 module _ (array at : List ℕ) (s : Side array at) (work : List ℕ) (room : length work ≡ 512) where
   pub front-count : length at ≡ length (take (length at - 1) work) + 1
@@ -28,17 +26,26 @@ module _ (s x before after : List ℕ) (room : length before ≡ 513) (t : Taken
   side-is : SideTaken 0 s x after n p
   side-is = side-taken 0 s x before after room t into n p e
 
-  pub taken-entries : n + 1 ≤ length after
-  taken-entries = let h = side-is .few in omega (arith, h, taken-long s x before after t into, room)
-
   pub entry-fits : Fits w64 (n + 1)
   entry-fits = let h = side-is .few in omega (arith, h)
 
-  pub entries-lent : n + 1 ≡ length (take (n + 1) after)
-  entries-lent = sym (side-is .entries)
-
-  pub taken-side : Side (take (length s - 6) (drop 6 s)) (take (n + 1) after)
+  taken-side : Side (take (length s - 6) (drop 6 s)) (take (n + 1) after)
   taken-side =
       let whole : take (length s - 6) (drop 6 s) ≡ drop 6 s = take-all (length s - 6) (drop 6 s) (omega (arith, length-drop 6 s)) in
       let few = side-is .few in
       record { positions = rw whole (side-is .positions); end = omega (arith, side-is .entries); few = omega (arith, side-is .entries, few) }
+
+  pub side-at : 6 ≤ length s → SideAt s after (n + 1)
+  side-at h =
+      let few = side-is .few in
+      record { noted = omega (arith, few, taken-long s x before after t into, room); sizes = λ z. h; side = λ z. taken-side }
+
+module _ (s at : List ℕ) (r : ℕ) (x : SideAt s at r) (some : r ≡ 0 → ⊥) where
+  pub side-sizes : 6 ≤ length s
+  side-sizes = x .sizes (omega arith)
+
+  pub side-here : Side (take (length s - 6) (drop 6 s)) (take r at)
+  side-here = x .side (omega arith)
+
+pub side-noted : (s at : List ℕ) (r : ℕ) → SideAt s at r → r ≡ length (take r at)
+side-noted s at r x = front-long r at (x .noted)

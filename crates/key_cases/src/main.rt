@@ -1,24 +1,17 @@
 // Numbers the keys of the two sides of each case on standard input, and writes a line for each: the left side's numbers, a bar, and the
 // right side's. A case is a byte for the matching (0 all, 1 on, 2 ignoring) and three parts: the matching's list, the left label part and
 // the right one, of no points. A part is two bytes of length, the low byte first, and that many bytes.
+use case_parts::part_at;
+use case_text::print;
+use case_text::print_number;
 use labels::Matching;
 use libc::STDIN_FILENO;
-use libc::STDOUT_FILENO;
 use timeseries::Taken;
 ghost use mathlib.Core.Path.{_≡_};
-ghost use Prim.Native.Nat.{_+_, _≤_, _<_};
+ghost use Prim.Native.Nat.{_+_};
 ghost use lib.ListN.{length};
-ghost use Rattle.timeseries.specs.Sides.{Positions};
-ghost use Rattle.key_cases.specs.Sides.{Side};
-
-fn print(text: &[u8]) {
-    io::write_all(STDOUT_FILENO, text);
-}
-
-fn print_number(n: usize) {
-    print(b" ");
-    io::print_decimal(STDOUT_FILENO, n as u64);
-}
+ghost use Rattle.side_parts.specs.Sides.{Positions};
+ghost use Rattle.key_cases.specs.Sides.{Side, SideAt};
 
 fn print_numbers(keys: &[usize]) {
     let mut i: usize = 0;
@@ -97,118 +90,72 @@ fn number_sides(
 }
 
 // A side that is not taken, with 01's number and place.
-fn refused(number: usize, place: usize) {
+fn refused(number: usize, place: usize) -> usize
+    ensures { λ r. ⌜ r ≡ 0 ⌝ }
+{
     print(b"refused");
     print_number(number);
     print_number(place);
     print(b"\n");
+    0
 }
 
-fn take_right(matching: Matching, list: &[u8], left: &[u8], left_at: &[usize], labels: &[u8])
-    requires { ⌜ Side (now left) (now «left_at») ⌝ }
+// Takes a side: how many positions are noted, or 0 where it is refused.
+fn take(labels: &[u8], at: &mut [usize; 513]) -> usize
+    requires { ⌜ length (now at) ≡ 513 ⌝ }
+    ensures { λ r. ⌜ SideAt (now (labels .entry)) (now (at .exit)) r ⌝ }
 {
     if labels.len() < 6 {
         return refused(3, 0);
     }
     let none = [0u64; 1];
-    let mut at = [0usize; 513];
-    match timeseries::take_vector(labels, &none[..0], &mut at) {
+    match timeseries::take_vector(labels, &none[..0], at) {
         Taken::Cut(place) => refused(3, place),
         Taken::BadKey(place) => refused(4, place),
         Taken::Readings => refused(5, 0),
-        Taken::Vector { series, points } => {
-            let e = series + 1;
-            number_sides(matching, list, left, left_at, &labels[6..], &at[..e]);
-        }
+        Taken::Vector { series, points } => series + 1,
     }
 }
 
-fn take_left(matching: Matching, list: &[u8], labels: &[u8], right_labels: &[u8]) {
-    if labels.len() < 6 {
-        return refused(3, 0);
+fn take_sides(matching: Matching, list: &[u8], left: &[u8], right: &[u8]) {
+    let mut left_at = [0usize; 513];
+    let n = take(left, &mut left_at);
+    if n == 0 {
+        return;
     }
-    let none = [0u64; 1];
-    let mut at = [0usize; 513];
-    match timeseries::take_vector(labels, &none[..0], &mut at) {
-        Taken::Cut(place) => refused(3, place),
-        Taken::BadKey(place) => refused(4, place),
-        Taken::Readings => refused(5, 0),
-        Taken::Vector { series, points } => {
-            let e = series + 1;
-            take_right(matching, list, &labels[6..], &at[..e], right_labels);
-        }
+    let mut right_at = [0usize; 513];
+    let m = take(right, &mut right_at);
+    if m == 0 {
+        return;
     }
+    number_sides(
+        matching,
+        list,
+        &left[6..],
+        &left_at[..n],
+        &right[6..],
+        &right_at[..m],
+    );
 }
 
 fn answer(matching: u8, list: &[u8], left: &[u8], right: &[u8]) {
     match matching {
-        0 => take_left(Matching::All, list, left, right),
-        1 => take_left(Matching::On, list, left, right),
-        _ => take_left(Matching::Ignoring, list, left, right),
+        0 => take_sides(Matching::All, list, left, right),
+        1 => take_sides(Matching::On, list, left, right),
+        _ => take_sides(Matching::Ignoring, list, left, right),
     }
-}
-
-fn wide(b: u8) -> usize
-    ensures { λ r. ⌜ r < 256 ⌝ }
-{
-    b as usize
-}
-
-// Where the part at a place ends; 0 where it is cut.
-fn part_end(s: &[u8], at: usize) -> usize
-    ensures { λ r. ⌜ r ≤ length (now (s .entry)) ⌝ }
-{
-    if s.len() <= at {
-        return 0;
-    }
-    if s.len() - at < 2 {
-        return 0;
-    }
-    let low = wide(s[at]);
-    let high = wide(s[at + 1]);
-    let start = at + 2;
-    let n = low + 256 * high;
-    if s.len() - start < n {
-        return 0;
-    }
-    start + n
 }
 
 fn run(s: &[u8]) {
     let mut p: usize = 0;
     while p < s.len() {
-        let a = p + 1;
-        let a_end = part_end(s, a);
-        if a_end <= a {
-            return;
-        }
-        if a_end - a < 2 {
-            return;
-        }
-        let b_end = part_end(s, a_end);
-        if b_end <= a_end {
-            return;
-        }
-        if b_end - a_end < 2 {
-            return;
-        }
-        let c_end = part_end(s, b_end);
-        if c_end <= b_end {
-            return;
-        }
-        if c_end - b_end < 2 {
-            return;
-        }
-        let a_start = a + 2;
-        let b_start = a_end + 2;
-        let c_start = b_end + 2;
-        answer(
-            s[p],
-            &s[a_start..a_end],
-            &s[b_start..b_end],
-            &s[c_start..c_end],
-        );
-        p = c_end;
+        let list = part_at(s, p + 1);
+        let left_at = p + 3 + list.len();
+        let left = part_at(s, left_at);
+        let right_at = left_at + 2 + left.len();
+        let right = part_at(s, right_at);
+        answer(s[p], list, left, right);
+        p = right_at + 2 + right.len();
     }
 }
 

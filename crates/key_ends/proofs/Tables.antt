@@ -1,5 +1,5 @@
 -- Tables of places by key number: filled from the back and from the front, and read; and the places of keys put one behind another. Assumes nothing.
-use Prim.Native.Nat.{ℕ, zero, suc, _+_, _-_, _*_, _≤_, _<_}
+use Prim.Native.Nat.{ℕ, suc, _+_, _-_, _*_, _≤_, _<_}
 use mathlib.Core.Path.{_≡_, refl, sym, ap, _∙_}
 use mathlib.Core.Bool.{Bool, true, false, cond}
 use mathlib.Core.List.{List, [], _∷_}
@@ -10,12 +10,13 @@ use mir.Val.{Fits}
 use lib.Dec.{eqb, ltb}
 use lib.ListN.{length, getD, drop, set, replicate, length-set, length-replicate, getD-replicate, drop-of-length-le}
 use lib.Seq.{drop-cons, getD-set-same, getD-set-other}
-use borrow.Author.Tests.{eqb-true, eqb-false, lt-ltb, le-ltb, ltb-true, ltb-false, ne-eqb, eq-eqb}
+use borrow.Author.Tests.{eqb-true, eqb-false, lt-ltb, le-ltb, ltb-true, ltb-false}
 use Rattle.model.specs.Lists.{cases}
 use Rattle.key_places.specs.Places as Places
 use Rattle.plan.specs.Keys.{firstOf, lastFrom, lastOf}
-use Rattle.merging.specs.Laws.{first-places, last-places}
-use Rattle.key_ends.specs.Codes.{noted, Table, endsCode, pairCode, SideEnds, PairEnds, first-small, last-small}
+use Rattle.tried_merges.specs.Laws.{first-places, last-places}
+use Rattle.end_codes.specs.Codes.{endsCode, pairCode, SideEnds, PairEnds, first-small, last-small}
+use Rattle.key_ends.specs.Tables.{noted, Table}
 
 -- `note`
 

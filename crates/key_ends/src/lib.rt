@@ -1,9 +1,10 @@
 // The first and the last places of keys on two sides, found in linear time by tables of key numbers.
 ghost use mathlib.Core.Path.{_≡_};
 ghost use Prim.Native.Nat.{_+_, _*_, _≤_, _<_};
-ghost use lib.ListN.{length, getD};
+ghost use lib.ListN.{length};
 ghost use Rattle.plan.specs.Keys.{firstOf, lastOf};
-ghost use Rattle.key_ends.specs.Codes.{noted, Table, endsCode, SideEnds, PairEnds, sideFirst, sideLast, leftFirst, leftLast, rightFirst, rightLast};
+ghost use Rattle.end_codes.specs.Codes.{endsCode, SideEnds, PairEnds};
+ghost use Rattle.key_ends.specs.Tables.{noted, Table};
 
 // Notes a place in the table at a key's number; a number that the table has no room for is not noted.
 fn note(table: &mut [usize], k: usize, i: usize)
@@ -124,46 +125,4 @@ pub fn pair_ends(lkeys: &[usize], rkeys: &[usize], ends: &mut [usize])
     side_ends(lkeys, lkeys, ends);
     side_ends(rkeys, lkeys, &mut right);
     join_ends(lkeys, rkeys, &right, ends);
-}
-
-// The first place of a code of one side.
-pub fn side_first(c: usize) -> usize
-    ensures { λ r. ⌜ r ≡ sideFirst c ⌝ }
-{
-    c / 1024
-}
-
-// The last place of a code of one side.
-pub fn side_last(c: usize) -> usize
-    ensures { λ r. ⌜ r ≡ sideLast c ⌝ }
-{
-    c % 1024
-}
-
-// The first left place of a code.
-pub fn left_first(c: usize) -> usize
-    ensures { λ r. ⌜ r ≡ leftFirst c ⌝ }
-{
-    c / 1073741824
-}
-
-// The last left place of a code.
-pub fn left_last(c: usize) -> usize
-    ensures { λ r. ⌜ r ≡ leftLast c ⌝ }
-{
-    c / 1048576 % 1024
-}
-
-// The first right place of a code.
-pub fn right_first(c: usize) -> usize
-    ensures { λ r. ⌜ r ≡ rightFirst c ⌝ }
-{
-    c / 1024 % 1024
-}
-
-// The last right place of a code.
-pub fn right_last(c: usize) -> usize
-    ensures { λ r. ⌜ r ≡ rightLast c ⌝ }
-{
-    c % 1024
 }

@@ -1,3 +1,1 @@
-pub mod Finding
-pub mod Noting
 pub mod Numbering

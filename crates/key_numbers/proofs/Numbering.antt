@@ -11,21 +11,14 @@ use Rattle.model.specs.Edits.{Names}
 use Rattle.model.specs.Query.{Matching, keyOf}
 use Rattle.model.specs.Laws.Lists.{map-append}
 use Rattle.labels.specs.Names.{namesOf}
-use Rattle.metric_name.specs.Lenient.{labelsOf}
-use Rattle.signature.specs.Keys.{recordKey, hashOf}
-use Rattle.timeseries.specs.Sides.{recordAt, labelsIn, Positions}
-use Rattle.timeseries.specs.SideLaws.{labels-at, labels-count, labels-first, positions-first}
-use Rattle.key_places.specs.Places.{first-within}
-use Rattle.key_numbers.specs.Keys.{sameKeys, firstPlace, numbers, keyHashes, Hashed, Numbered}
-use Rattle.key_numbers.specs.KeyLaws.{place-so-far}
-use Rattle.key_numbers.specs.Buckets.{buckets, noted, Noted}
-use Rattle.key_numbers.proofs.Finding.{side-count}
-use Rattle.key_numbers.proofs.Noting.{noted-size, noting}
-
-module _ (m : Matching) (list array at hashes : List ℕ) (s : Hashed m (namesOf list) array at hashes) where
-  pub place-within : (j : ℕ) (l : Labels) → j ≡ firstPlace m (namesOf list) (labelsIn array at) l → j ≤ length hashes
-  unfolding firstPlace
-  place-within j l e = omega (arith, e, first-within (λ k. sameKeys m (namesOf list) k l) (labelsIn array at), side-count m list array at hashes s)
+use Rattle.record_tags.specs.Lenient.{labelsOf}
+use Rattle.chosen_tags.specs.Keys.{recordKey, hashOf}
+use Rattle.side_parts.specs.Sides.{recordAt, labelsIn, Positions}
+use Rattle.side_parts.specs.SideLaws.{labels-at, labels-count, labels-first, positions-first}
+use Rattle.key_lookup.specs.Keys.{firstPlace, numbers, keyHashes, Hashed, Numbered}
+use Rattle.key_lookup.specs.KeyLaws.{place-so-far}
+use Rattle.key_lookup.specs.Buckets.{buckets, noted, Noted}
+use Rattle.key_lookup.proofs.Noting.{noted-size, noting}
 
 -- i keys are numbered
 pub record Numbering (m : Matching) (list : List ℕ) (lefts : List Labels) (leftHashes array at hashes₀ keys₀ table₀ hashes keys table : List ℕ) (i : ℕ) : Type 0 where

@@ -1,7 +1,7 @@
 -- `number_kept` and `drop_missing`: what is renumbered, then what is left. Assumes nothing.
 use Prim.Native.Nat.{ℕ, suc, _+_, _-_, _*_, _≤_, _<_}
 use mathlib.Core.Path.{_≡_, refl, sym, ap, _∙_}
-use mathlib.Core.Bool.{Bool, true, false, cond}
+use mathlib.Core.Bool.{Bool, true, false}
 use mathlib.Core.List.{List, [], _∷_, _++_, append-nil}
 use native.Mathlib.Numerals.{add-one}
 use native.Mathlib.Nat.{le-refl, mul-le-mul-right, suc-mul}
@@ -9,8 +9,8 @@ use native.Mathlib.Omega.{arith}
 use lib.ListN.{length, getD, take, drop, set, length-set, drop-of-length-le}
 use lib.Seq.{drop-cons, take-suc-set, drop-set-lt, append-snoc, take-all, drop-drop}
 use Rattle.model.specs.Row.{onlyMissing}
-use Rattle.timeseries.specs.Sides.{rowAt}
-use Rattle.key_places.specs.Dropped.{dropped, keptNumber, droppedMissing}
+use Rattle.side_parts.specs.Sides.{rowAt}
+use Rattle.key_places.specs.Dropped.{keptNumber, droppedMissing}
 
 pub row-gone : (row : List ℕ) (k : ℕ) (b : Bool) → b ≡ onlyMissing row → b ≡ true → 1024 ≡ keptNumber row k
 row-gone row k b h e = rw (← h, e)

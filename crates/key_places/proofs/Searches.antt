@@ -1,7 +1,7 @@
 -- `first_of` and `last_of`: none of the places passed has the key. Assumes nothing.
 use Prim.Native.Nat.{ℕ, suc, _+_, _-_, _≤_, _<_}
 use mathlib.Core.Path.{_≡_, refl, sym, ap, _∙_}
-use mathlib.Core.Bool.{true, false}
+use mathlib.Core.Bool.{false}
 use mathlib.Core.List.{List, [], _∷_}
 use native.Mathlib.Numerals.{add-one}
 use native.Mathlib.Omega.{arith}
@@ -10,7 +10,7 @@ use lib.ListN.{length, getD, drop, drop-of-length-le}
 use lib.Seq.{drop-cons}
 use borrow.Author.Tests.{eq-eqb, ne-eqb, ltb-true, ltb-false}
 use Rattle.model.specs.Lists.{cases}
-use Rattle.key_places.specs.Places.{firstWhere, firstOf, lastOf, first-yes, first-no, first-none, last-is, last-nowhere}
+use Rattle.key_places.specs.Places.{firstOf, lastOf, first-yes, first-no, first-none, last-is, last-nowhere}
 
 -- the first i places do not have the key
 pub record Ahead (keys : List ℕ) (k i : ℕ) : Type 0 where

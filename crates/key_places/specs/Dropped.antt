@@ -1,7 +1,7 @@
 -- The number of a series that takes no part, and numbers with the series that have only missing readings taken out. Assumes nothing.
 use Prim.Native.Nat.{ℕ, zero, suc, _+_, _*_, _<_}
 use mathlib.Core.Path.{_≡_, refl, sym, ap, _∙_}
-use mathlib.Core.Bool.{Bool, false, cond}
+use mathlib.Core.Bool.{false, cond}
 use mathlib.Core.List.{List, [], _∷_}
 use native.Mathlib.Nat.{zero-mul, suc-mul, add-comm}
 use native.Mathlib.Omega.{arith}
@@ -10,7 +10,7 @@ use lib.ListN.{length, getD, take, drop}
 use lib.Seq.{drop-drop}
 use borrow.Author.Tests.{ne-eqb}
 use Rattle.model.specs.Row.{onlyMissing}
-use Rattle.timeseries.specs.Sides.{rowAt}
+use Rattle.side_parts.specs.Sides.{rowAt}
 
 -- matches nothing: numbers are below 1,024
 abbrev pub dropped : ℕ

@@ -22,7 +22,7 @@ pub fn drop_missing(rows: &[u64], p: usize, keys: &mut [usize])
 {
     let mut i: usize = 0;
     while i < keys.len() {
-        keys[i] = number_kept(timeseries::row(rows, p, i), keys[i]);
+        keys[i] = number_kept(side_parts::row(rows, p, i), keys[i]);
         i += 1;
     }
 }

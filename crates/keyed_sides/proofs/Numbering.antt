@@ -1,7 +1,7 @@
 -- Which series are dropped before an operator, and the numbers of the keys that are left. Assumes nothing.
 use Prim.Native.Nat.{ℕ, _+_, _-_, _*_, _≤_, _<_}
 use mathlib.Core.Path.{_≡_, refl, sym, ap, _∙_}
-use mathlib.Core.Bool.{Bool, true, false, cond}
+use mathlib.Core.Bool.{Bool, true, false}
 use mathlib.Core.List.{List}
 use native.Mathlib.Omega.{arith}
 use lib.ListN.{length, take}
@@ -13,7 +13,7 @@ use Rattle.labels.specs.Names.{namesOf}
 use Rattle.labels.specs.Matchings.{matchingOf}
 use Rattle.query.specs.declared.Query.{Query}
 use Rattle.query.specs.Queries.{matchingPart, queryOf}
-use Rattle.timeseries.specs.Sides.{Positions}
+use Rattle.side_parts.specs.Sides.{Positions}
 use Rattle.key_places.specs.Dropped.{droppedMissing}
 use Rattle.keyed_sides.specs.Lent.{LentSide}
 use Rattle.keyed_sides.specs.Keyed.{dropsMissing, keptKeys, Keyed, NumbersKept}
@@ -52,9 +52,6 @@ module _ (o : Operator) (p : ℕ) (rows keys : List ℕ) (r : Bool) (hr : r ≡ 
   dropped-by-others h t ht g kept e = rw (others-drop (kindOf o) (sym hr ∙ h) (sym ht ∙ g)) e
 
 -- room for keys and hashes
-
-pub front-long : (n : ℕ) (work : List ℕ) → n ≤ length work → n ≡ length (take n work)
-front-long n work h = sym (length-take-le n work h)
 
 pub front-count : (at work : List ℕ) → 0 < length at → length at - 1 ≤ length work → length at ≡ length (take (length at - 1) work) + 1
 front-count at work h k = omega (arith, h, length-take-le (length at - 1) work k)

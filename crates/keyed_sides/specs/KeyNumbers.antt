@@ -10,8 +10,8 @@ use Rattle.model.specs.Query.{Query, sameKey}
 use Rattle.model.specs.Vector.{Series, seriesOf}
 use Rattle.model.specs.Laws.Vector.{series-labels, series-count}
 use Rattle.key_places.specs.Dropped.{keptNumber, droppedMissing}
-use Rattle.key_numbers.specs.Keys.{sameKeys, numbers}
-use Rattle.key_numbers.specs.KeyLaws.{left-left, left-right, right-right, left-below, right-below}
+use Rattle.key_lookup.specs.Keys.{sameKeys, numbers}
+use Rattle.key_lookup.specs.KeyLaws.{left-left, left-right, right-right, left-below, right-below}
 use Rattle.plan.specs.Laws.Common.{noSeries, getD-labels}
 use Rattle.plan.specs.Laws.Numbers.{TellsKeys, KeysTold, droppedKeys}
 use Rattle.plan.specs.Pairs.{noLabels}

@@ -1,17 +1,16 @@
 -- Both sides of a call with their key numbers; under arithmetic the series with only missing readings take no part. Assumes nothing.
 use Prim.Native.Nat.{ℕ, _+_, _-_, _≤_}
-use mathlib.Core.Path.{_≡_, refl, sym, ap, _∙_}
+use mathlib.Core.Path.{_≡_, refl, ap, _∙_}
 use mathlib.Core.Bool.{Bool, true, false, cond}
-use mathlib.Core.List.{List, [], _++_, map}
+use mathlib.Core.List.{List, [], _++_}
 use native.Mathlib.Omega.{arith}
 use lib.ListN.{length, length-map}
 use Rattle.operator.specs.Kinds.{Kind, arithmetic, comparison, setRule, fallback, notCarried}
-use Rattle.model.specs.Limits.{maxSeries}
 use Rattle.model.specs.Edits.{Names}
 use Rattle.model.specs.Query.{Matching, Query}
-use Rattle.timeseries.specs.Sides.{labelsIn, sideOf}
-use Rattle.timeseries.specs.SideLaws.{labels-count}
-use Rattle.key_numbers.specs.Keys.{firstPlace, numbers}
+use Rattle.side_parts.specs.Sides.{labelsIn, sideOf}
+use Rattle.side_parts.specs.SideLaws.{labels-count}
+use Rattle.key_lookup.specs.Keys.{firstPlace, numbers}
 use Rattle.key_places.specs.Dropped.{droppedMissing, dropped-count}
 use Rattle.plan.specs.Laws.Keyed.{Numbers}
 use Rattle.plan.specs.Laws.Numbers.{KeysTold, numbers-all, numbers-kept}

@@ -12,9 +12,9 @@ use Rattle.model.specs.Labels.{Labels, Bytes, WellFormed}
 use Rattle.model.specs.Record.{encode}
 use Rattle.model.specs.Vector.{Series, Vector, Readings, GoodSeries, vector, takeVector}
 use Rattle.model.specs.Laws.Vector.{taken-is}
-use Rattle.metric_name.specs.Lenient.{labelsOf, labels-encoded}
-use Rattle.timeseries.specs.Sides.{recordAt, sideOf, Positions}
-use Rattle.timeseries.specs.SideLaws.{record-starts}
+use Rattle.record_tags.specs.Lenient.{labelsOf, labels-encoded}
+use Rattle.side_parts.specs.Sides.{recordAt, sideOf, Positions}
+use Rattle.side_parts.specs.SideLaws.{record-starts}
 use Rattle.timeseries.specs.TakeLaws.{SideTaken}
 use Rattle.plan.specs.Laws.Common.{noSeries, getD-labels}
 use Rattle.plan.specs.Pairs.{noLabels}

@@ -7,7 +7,7 @@ ghost use lib.ListN.{length};
 ghost use Rattle.operator.specs.Kinds.{kindOf};
 ghost use Rattle.labels.specs.Names.{namesOf};
 ghost use Rattle.labels.specs.Matchings.{matchingOf};
-ghost use Rattle.timeseries.specs.Sides.{Positions};
+ghost use Rattle.side_parts.specs.Sides.{Positions};
 ghost use Rattle.keyed_sides.specs.Lent.{LentSide};
 ghost use Rattle.keyed_sides.specs.Keyed.{dropsMissing, keptKeys, SidesNumbered, NumbersKept};
 

@@ -8,9 +8,9 @@ use Rattle.model.specs.Labels.{Labels, nameLabel}
 use Rattle.model.specs.Record.{encode}
 use Rattle.model.specs.Edits.{Names, isListed, removeTagsOn, removeTagsIgnoring}
 use Rattle.model.specs.Query.{on, ignoring}
-use Rattle.label_edits.specs.Written.{Put}
-use Rattle.label_edits.specs.Edited.{kept, Sized, on-kept, ignoring-kept}
-use Rattle.label_edits.specs.declared.Size.{Size}
+use Rattle.writing.specs.Written.{Put}
+use Rattle.kept_labels.specs.Edited.{kept, Sized, on-kept, ignoring-kept}
+use Rattle.kept_labels.specs.declared.Size.{Size}
 
 module _ (ns : Names) (l : Labels) (named : Bool) (h : named ≡ isListed ns nameLabel) where
   on-is : kept on ns named l ≡ removeTagsOn ns l

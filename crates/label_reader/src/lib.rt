@@ -1,5 +1,5 @@
-// Label records read through a reader: the label array, borrowed, and a position in it. The work is in `metric_name`.
-use metric_name::Record;
+// Label records read through a reader: the label array, borrowed, and a position in it. The work is in `label_records`.
+use label_records::Record;
 ghost use mathlib.Core.Path.{_≡_};
 ghost use Rattle.label_reader.specs.Reads.{readFrom};
 
@@ -29,7 +29,7 @@ pub fn moved<'a>(r: LabelReader<'a>, at: usize) -> LabelReader<'a>
 pub fn read<'a>(r: LabelReader<'a>) -> Record
     ensures { λ x. ⌜ x ≡ readFrom (now (r .entry .labels)) (r .entry .at) ⌝ }
 {
-    metric_name::read_record(r.labels, r.at)
+    label_records::read_record(r.labels, r.at)
 }
 
 // The record at a position of a label array, through a reader.

@@ -7,11 +7,11 @@ use native.Mathlib.Omega.{arith}
 use lib.ListN.{length, getD, take, drop}
 use Rattle.model.specs.Labels.{sameBytes}
 use Rattle.model.specs.Edits.{isListed, star, isStar}
-use Rattle.labels.specs.Fields.{fieldAt}
+use Rattle.fields.specs.Fields.{fieldAt}
 use Rattle.labels.specs.Names.{namesUpTo, namesOf}
-use Rattle.labels.specs.declared.Place.{Place}
-use Rattle.labels.specs.declared.Place.the-variants.{At, Short}
-use Rattle.labels.proofs.Fields.{placed, unplaced, more}
+use Rattle.fields.specs.declared.Place.{Place}
+use Rattle.fields.specs.declared.Place.the-variants.{At, Short}
+use Rattle.fields.proofs.Fields.{placed, unplaced, more}
 
 pub list-none : (s k : List ℕ) → length s ≡ 0 → false ≡ isListed (namesOf s) k
 unfolding namesOf isListed

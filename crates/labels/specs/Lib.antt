@@ -1,3 +1,2 @@
-pub mod Fields
 pub mod Names
 pub mod Matchings

@@ -1,7 +1,7 @@
 -- Merging: a turn and the end of each of its loops, and what it answers by what the tests found. Assumes nothing.
 use mathlib.Core.Path.{_≡_, refl, sym, _∙_}
 use mathlib.Core.Bool.{Bool, true, false, not, cond, _||_}
-use mathlib.Core.Option.{Option, none, some}
+use mathlib.Core.Option.{none, some}
 use mathlib.Core.List.{List, [], _∷_, _++_, append-nil}
 use Prim.Native.Nat.{ℕ, suc, _+_, _-_, _≤_, _<_}
 use native.Mathlib.Nat.{le-refl}
@@ -14,7 +14,6 @@ use lib.Seq.{drop-cons, take-suc-set, drop-set-lt, append-snoc, take-all}
 use borrow.Author.Tests.{eq-eqb, ne-eqb, le-leb, lt-leb, leb-true, leb-false, lt-ltb, le-ltb}
 use Rattle.model.specs.Reading.{missing}
 use Rattle.model.specs.Row.{overlaps, overwritten, merged}
-use Rattle.merge.specs.declared.Merged.{Merged}
 use Rattle.merge.specs.declared.Merged.the-variants.{Done, Overlapping, Unequal}
 use Rattle.reading.specs.Gaps.{gapOf}
 use Rattle.merge.specs.Merging.{bothOf, sourceFirst, mergedIf, MergedAs, mergedAlone}

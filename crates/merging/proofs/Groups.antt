@@ -1,13 +1,13 @@
 -- Rows of a group merged: one row, and the loop over the rows. Assumes nothing.
 use Prim.Native.Nat.{ℕ, suc, _+_, _-_, _*_, _≤_, _<_}
 use mathlib.Core.Path.{_≡_, refl, sym, ap, _∙_}
-use mathlib.Core.Bool.{Bool, true, false, cond}
+use mathlib.Core.Bool.{Bool, true, false}
 use mathlib.Core.Option.{Option, none, some}
 use mathlib.Core.List.{List, [], _∷_}
 use native.Mathlib.Nat.{sub-zero, mul-le-mul-right, suc-mul}
 use native.Mathlib.Numerals.{add-one}
 use native.Mathlib.Omega.{arith}
-use lib.Dec.{eqb, ltb}
+use lib.Dec.{eqb}
 use lib.ListN.{length, getD, take, drop, length-drop}
 use lib.Seq.{drop-cons, length-take-le, take-all}
 use borrow.Author.Tests.{eq-eqb, ne-eqb}
@@ -16,14 +16,14 @@ use Rattle.model.specs.Row.{overwritten, merged}
 use Rattle.model.specs.Laws.Row.{overwritten-wide}
 use Rattle.merge.specs.declared.Merged.{Merged}
 use Rattle.merge.specs.declared.Merged.the-variants as M
-use Rattle.merge.specs.Merging.{Merging, done, overlapping, refused, doneOr, mergedIf, mergedAlone, MergedAs}
-use Rattle.plan.specs.Keys.{firstOf, lastOf}
+use Rattle.merge.specs.Merging.{done, overlapping, refused, doneOr, mergedIf, mergedAlone, MergedAs}
+use Rattle.plan.specs.Keys.{firstOf, lastOf, KeyEnds}
 use Rattle.plan.specs.Merging.{rowAt, RowMerge, row, failedAt, onRow, mergeGroup, mergeLast, mergeLead}
 use Rattle.merging.specs.declared.Merges.{Merges}
 use Rattle.merging.specs.declared.Merges.the-variants.{Done, FailedAt}
-use Rattle.merging.specs.Groups.{Ends, absorbedOne, thereIf, AbsorbedAs, MergedGroup}
+use Rattle.merging.specs.Groups.{absorbedOne, thereIf, AbsorbedAs, MergedGroup}
 use Rattle.key_places.specs.Places as Places
-use Rattle.merging.specs.Laws.{first-places, last-places, last-within, ends-within, several-merged}
+use Rattle.tried_merges.specs.Laws.{last-places, last-within, ends-within, several-stand, several-merged}
 
 -- `absorb`
 
@@ -91,7 +91,7 @@ some-there none d refusal f h = absurd (let z : _≡_ {A = ℕ} 0 1 = cc in omeg
 some-there (some e) d refusal f h = let z : e ≡ d = cc in rw z
 
 module _ (allowance : ℕ) (rows groups : List ℕ) (g : ℕ) where
-  group-step : (i n : ℕ) (d : List ℕ) → i < length groups → mergeGroup allowance (length d) rows g i (take (suc n) (drop i groups)) d ≡ onRow (absorbedOne allowance rows (getD groups i 0) g i d) (failedAt i) (mergeGroup allowance (length d) rows g (suc i) (take n (drop (suc i) groups)))
+  group-step : (i n : ℕ) (d : List ℕ) → i < length groups → mergeGroup allowance (length d) rows g i (take (suc n) (drop i groups)) d ≡ onRow (absorbedOne allowance rows (getD groups i 0) g i d) (failedAt i d) (mergeGroup allowance (length d) rows g (suc i) (take n (drop (suc i) groups)))
   unfolding mergeGroup
   group-step i n d h = rw (drop-cons groups i 0 h) (cases (eqb (getD groups i 0) g) (λ e. rw e) (λ e. rw e))
 
@@ -103,7 +103,7 @@ module _ (allowance : ℕ) (rows groups : List ℕ) (g : ℕ) where
       pub between-row : length groups * p ≤ length rows → i * length d + length d ≤ length rows
       between-row room = rw (inv .long) (let z : i * p + p ≤ length groups * p = rw (← suc-mul) (mul-le-mul-right p (omega arith)) in omega arith)
 
-      next : onRow (absorbedOne allowance rows (getD groups i 0) g i d) (failedAt i) (mergeGroup allowance (length d) rows g (suc i) (take (to - suc i) (drop (suc i) groups))) ≡ want
+      next : onRow (absorbedOne allowance rows (getD groups i 0) g i d) (failedAt i d) (mergeGroup allowance (length d) rows g (suc i) (take (to - suc i) (drop (suc i) groups))) ≡ want
       next =
           let n : to - i ≡ suc (to - suc i) = omega arith in
           sym (group-step i (to - suc i) d (omega arith)) ∙ rw (← n, inv .long) (inv .rest)
@@ -114,13 +114,13 @@ module _ (allowance : ℕ) (rows groups : List ℕ) (g : ℕ) where
             record {
               within = omega arith;
               long = u .long ∙ inv .long;
-              rest = rw (add-one i, ← inv .long) (sym (some-there (absorbedOne allowance rows (getD groups i 0) g i d) d′ (failedAt i) (mergeGroup allowance (length d) rows g (suc i) (take (to - suc i) (drop (suc i) groups))) (rw e at (u .answer))) ∙ next);
+              rest = rw (add-one i, ← inv .long) (sym (some-there (absorbedOne allowance rows (getD groups i 0) g i d) d′ (failedAt i d) (mergeGroup allowance (length d) rows g (suc i) (take (to - suc i) (drop (suc i) groups))) (rw e at (u .answer))) ∙ next);
             }
 
         pub between-failed : r ≡ false → MergedGroup want p d′ (FailedAt i)
         between-failed e =
             record {
-              answer = sym (none-there (absorbedOne allowance rows (getD groups i 0) g i d) d′ (failedAt i) (mergeGroup allowance (length d) rows g (suc i) (take (to - suc i) (drop (suc i) groups))) (rw e at (u .answer))) ∙ next;
+              answer = ap (failedAt i) (u .unmerged e) ∙ sym (none-there (absorbedOne allowance rows (getD groups i 0) g i d) d′ (failedAt i d) (mergeGroup allowance (length d) rows g (suc i) (take (to - suc i) (drop (suc i) groups))) (rw e at (u .answer))) ∙ next;
               long = u .long ∙ inv .long;
             }
 
@@ -182,33 +182,20 @@ module _ (rows keys : List ℕ) (p : ℕ) (room : length keys * p ≤ length row
         let t : take (length keys - (o + 1)) (drop (o + 1) keys) ≡ drop (o + 1) keys = take-all (length keys - (o + 1)) (drop (o + 1) keys) (omega (arith, length-drop (o + 1) keys)) in
         rw (e, t, add-one o, hd, hs) at m
 
--- `row_merges`
-
-pub rows-alike : (p : ℕ) (rows : List ℕ) (i j : ℕ) → i * p + p ≤ length rows → j * p + p ≤ length rows → (s d : List ℕ) → d ≡ rowAt p rows i → s ≡ rowAt p rows j → length s ≡ length d
-rows-alike p rows i j hi hj s d hd hs =
-    let a : length d ≡ p = ap length hd ∙ length-take-le p (drop (i * p) rows) (omega (arith, length-drop (i * p) rows)) in
-    let b : length s ≡ p = ap length hs ∙ length-take-le p (drop (j * p) rows) (omega (arith, length-drop (j * p) rows)) in
-    b ∙ sym a
-
-pub rows-told : (allowance p : ℕ) (rows : List ℕ) (i j : ℕ) (s d : List ℕ) → d ≡ rowAt p rows i → s ≡ rowAt p rows j → (r : Bool) → mergedIf r d s ≡ merged allowance d s → mergedIf r (rowAt p rows i) (rowAt p rows j) ≡ merged allowance (rowAt p rows i) (rowAt p rows j)
-rows-told allowance p rows i j s d hd hs r h = rw (hd, hs) at h
-
--- `stands_between`
-
-pub between-told : (keys : List ℕ) (k from to a : ℕ) → a ≡ Places.firstOf (take (to - from) (drop from keys)) k → ltb a (to - from) ≡ ltb (firstOf (take (to - from) (drop from keys)) k) (to - from)
-between-told keys k from to a h = rw (h, first-places k (take (to - from) (drop from keys)))
-
 -- `merge_several`
 
-module _ (rows keys : List ℕ) (p : ℕ) (room : length keys * p ≤ length rows) (k first last : ℕ) (e : Ends keys k first last) where
+module _ (rows keys : List ℕ) (p : ℕ) (room : length keys * p ≤ length rows) (k first last : ℕ) (e : KeyEnds keys k first last) (h : first < last) where
+  ends-first : first < length keys
+  ends-first = several-stand 0 p rows k keys first last e h
+
   ends-last : last < length keys
-  ends-last = ends-within 0 p rows k keys first last e
+  ends-last = ends-within 0 p rows k keys first last e ends-first
 
   pub ends-last-row : last * p + p ≤ length rows
   ends-last-row = row-of last (length keys) p rows ends-last room
 
   pub ends-first-row : first * p + p ≤ length rows
-  ends-first-row = row-of first (length keys) p rows (e .stands) room
+  ends-first-row = row-of first (length keys) p rows ends-first room
 
   pub ends-last-in : last ≤ length keys
   ends-last-in = omega (arith, ends-last)
@@ -217,7 +204,7 @@ module _ (rows keys : List ℕ) (p : ℕ) (room : length keys * p ≤ length row
   ends-long s hs = rw hs (row-long last (length keys) p rows ends-last room)
 
   pub ends-first-long : (s : List ℕ) → s ≡ rowAt p rows first → length s ≡ p
-  ends-first-long s hs = rw hs (row-long first (length keys) p rows (e .stands) room)
+  ends-first-long s hs = rw hs (row-long first (length keys) p rows ends-first room)
 
   module _ (x y d : List ℕ) (hx : x ≡ rowAt p rows last) (hy : y ≡ rowAt p rows first) (hd : d ≡ overwritten x y) where
     several-long : length d ≡ p
@@ -226,6 +213,6 @@ module _ (rows keys : List ℕ) (p : ℕ) (room : length keys * p ≤ length row
     pub several-room : length keys * length d ≤ length rows
     several-room = rw several-long room
 
-    pub several-told : (allowance : ℕ) → first < last → mergedIf true (rowAt p rows last) (rowAt p rows first) ≡ merged allowance (rowAt p rows last) (rowAt p rows first) → (d′ : List ℕ) (r : Merges) → MergedGroup (mergeGroup allowance (length d) rows k (first + 1) (take (last - (first + 1)) (drop (first + 1) keys)) d) (length d) d′ r → MergedGroup (mergeLast allowance p rows keys k) p d′ r
-    several-told allowance h m d′ r g =
+    pub several-told : (allowance : ℕ) → mergedIf true (rowAt p rows last) (rowAt p rows first) ≡ merged allowance (rowAt p rows last) (rowAt p rows first) → (d′ : List ℕ) (r : Merges) → MergedGroup (mergeGroup allowance (length d) rows k (first + 1) (take (last - (first + 1)) (drop (first + 1) keys)) d) (length d) d′ r → MergedGroup (mergeLast allowance p rows keys k) p d′ r
+    several-told allowance m d′ r g =
         rw (several-merged allowance p rows k keys first last e h m) (rw (several-long, add-one first, hd, hx, hy) at g)

@@ -1,5 +1,5 @@
 -- What the code's merges come to: one row of a group, and the rows of a group. Assumes nothing.
-use Prim.Native.Nat.{ℕ, _<_}
+use Prim.Native.Nat.{ℕ}
 use mathlib.Core.Path.{_≡_}
 use mathlib.Core.Bool.{Bool, true, false, cond}
 use mathlib.Core.Option.{Option, none, some}
@@ -7,16 +7,9 @@ use mathlib.Core.List.{List}
 use lib.Dec.{eqb}
 use lib.ListN.{length}
 use Rattle.model.specs.Row.{merged}
-use Rattle.plan.specs.Keys.{firstOf, lastOf}
 use Rattle.plan.specs.Merging.{rowAt, RowMerge, row, failedAt}
 use Rattle.merging.specs.declared.Merges.{Merges}
 use Rattle.merging.specs.declared.Merges.the-variants.{Done, FailedAt}
-
--- the first and the last place of a key that stands somewhere
-pub record Ends (keys : List ℕ) (k first last : ℕ) : Type 0 where
-  pub first-place : first ≡ firstOf keys k
-  pub last-place : last ≡ lastOf keys k
-  pub stands : first < length keys
 
 -- d with the row of the series i, whose group is x, merged into it if that is g
 abbrev pub absorbedOne : ℕ → List ℕ → ℕ → ℕ → ℕ → List ℕ → Option (List ℕ)
@@ -33,12 +26,12 @@ pub record AbsorbedAs (allowance : ℕ) (rows : List ℕ) (x g i : ℕ) (d d′ 
   pub unmerged : r ≡ false → d′ ≡ d
   pub long : length d′ ≡ length d
 
--- the row where the merges are done, else the place of the series that failed to merge
+-- the row where the merges are done, else the place of the series that failed to merge, and the row as merged before it
 abbrev pub mergesTo : Merges → List ℕ → RowMerge
 mergesTo Done d = row d
-mergesTo (FailedAt i) d = failedAt i
+mergesTo (FailedAt i) d = failedAt i d
 
--- merges that are to come to `want` answer r and leave d; where they fail, d is what the merges before left, and only its width is told
+-- merges that are to come to `want` answer r and leave d, p readings wide
 pub record MergedGroup (want : RowMerge) (p : ℕ) (d : List ℕ) (r : Merges) : Type 0 where
   pub answer : mergesTo r d ≡ want
   pub long : length d ≡ p

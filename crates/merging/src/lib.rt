@@ -3,35 +3,12 @@ use merge::Merged;
 ghost use mathlib.Core.Path.{_≡_};
 ghost use Prim.Native.Nat.{_+_, _-_, _*_, _≤_, _<_};
 ghost use mathlib.Core.Bool.{true};
-ghost use lib.Dec.{ltb};
 ghost use lib.ListN.{length, take, drop};
 ghost use Rattle.model.specs.Row.{merged};
 ghost use Rattle.merge.specs.Merging.{mergedIf};
-ghost use Rattle.plan.specs.Keys.{firstOf};
+ghost use Rattle.plan.specs.Keys.{firstOf, KeyEnds};
 ghost use Rattle.plan.specs.Merging.{rowAt, mergeGroup, mergeLast, mergeLead};
-ghost use Rattle.merging.specs.Groups.{Ends, AbsorbedAs, MergedGroup};
-
-// Whether a key stands between two places.
-pub fn stands_between(keys: &[usize], k: usize, from: usize, to: usize) -> bool
-    requires { ⌜ from ≤ to ⌝ }
-    requires { ⌜ to ≤ length (now keys) ⌝ }
-    ensures { λ r. ⌜ r ≡ ltb (firstOf (take (to - from) (drop from (now (keys .entry)))) k) (to - from) ⌝ }
-{
-    key_places::first_of(&keys[from..to], k) < to - from
-}
-
-// Whether the row of one series merges into that of another; nothing is written.
-pub fn row_merges(rows: &[u64], p: usize, into: usize, from: usize, allowance: usize) -> bool
-    requires { ⌜ into * p + p ≤ length (now rows) ⌝ }
-    requires { ⌜ from * p + p ≤ length (now rows) ⌝ }
-    ensures { λ r. ⌜ mergedIf r (rowAt p (now (rows .entry)) into) (rowAt p (now (rows .entry)) from) ≡ merged allowance (rowAt p (now (rows .entry)) into) (rowAt p (now (rows .entry)) from) ⌝ }
-{
-    merge::merges(
-        timeseries::row(rows, p, into),
-        timeseries::row(rows, p, from),
-        allowance,
-    )
-}
+ghost use Rattle.merging.specs.Groups.{AbsorbedAs, MergedGroup};
 
 // Merges the row of series i, whose group is x, if that is g. Says whether the row is merged as it should be.
 fn absorb(rows: &[u64], x: usize, g: usize, i: usize, allowance: usize, dst: &mut [u64]) -> bool
@@ -42,7 +19,7 @@ fn absorb(rows: &[u64], x: usize, g: usize, i: usize, allowance: usize, dst: &mu
         return true;
     }
     let p = dst.len();
-    match merge::merge_non_overlapping_timeseries(dst, timeseries::row(rows, p, i), allowance) {
+    match merge::merge_non_overlapping_timeseries(dst, side_parts::row(rows, p, i), allowance) {
         Merged::Done => true,
         Merged::Overlapping => false,
         Merged::Unequal => false,
@@ -95,7 +72,7 @@ pub fn merge_last(
 {
     let p = dst.len();
     let last = key_places::last_of(keys, k);
-    answers::copy_row(dst, timeseries::row(rows, p, last));
+    answers::copy_row(dst, side_parts::row(rows, p, last));
     merge_between(rows, keys, k, 0, last, allowance, dst)
 }
 
@@ -109,7 +86,7 @@ pub fn merge_several(
     allowance: usize,
     dst: &mut [u64],
 ) -> Merges
-    requires { ⌜ Ends (now keys) k first last ⌝ }
+    requires { ⌜ KeyEnds (now keys) k first last ⌝ }
     requires { ⌜ first < last ⌝ }
     requires { ⌜ mergedIf true (rowAt (length (now dst)) (now rows) last) (rowAt (length (now dst)) (now rows) first) ≡ merged allowance (rowAt (length (now dst)) (now rows) last) (rowAt (length (now dst)) (now rows) first) ⌝ }
     requires { ⌜ length (now keys) * length (now dst) ≤ length (now rows) ⌝ }
@@ -118,8 +95,8 @@ pub fn merge_several(
     let p = dst.len();
     merge::put_overwritten(
         dst,
-        timeseries::row(rows, p, last),
-        timeseries::row(rows, p, first),
+        side_parts::row(rows, p, last),
+        side_parts::row(rows, p, first),
     );
     merge_between(rows, keys, k, first + 1, last, allowance, dst)
 }
@@ -137,6 +114,6 @@ pub fn merge_lead(
     ensures { λ r. ⌜ MergedGroup (mergeLead allowance (length (now (dst .entry))) (now (rows .entry)) (now (leads .entry)) o) (length (now (dst .entry))) (now (dst .exit)) r ⌝ }
 {
     let p = dst.len();
-    answers::copy_row(dst, timeseries::row(rows, p, o));
+    answers::copy_row(dst, side_parts::row(rows, p, o));
     merge_between(rows, leads, o, o + 1, leads.len(), allowance, dst)
 }

@@ -1,4 +1,1 @@
-pub mod TagsRead
-pub mod RecordsRead
-pub mod Cursors
 pub mod Lookups

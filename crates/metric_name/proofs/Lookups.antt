@@ -11,23 +11,23 @@ use lib.ListN.{length, take, drop}
 use Rattle.model.specs.Labels.{sameBytes, nameLabel, valueOf}
 use Rattle.model.specs.Record.{Decoded, decoded, cut, badKey, decode, Lookup, present, foundAs, lookupIn, lookup, valuePart}
 use Rattle.model.specs.Laws.SetTags.{isNone}
-use Rattle.labels.specs.Fields.{fieldAt}
-use Rattle.metric_name.specs.Lenient.{tagsUpTo, labelsOf, labels-decoded}
-use Rattle.metric_name.specs.Cursors.{NextAt, every}
-use Rattle.metric_name.specs.Records.{recordOf, refusalOf}
+use Rattle.fields.specs.Fields.{fieldAt}
+use Rattle.record_tags.specs.Lenient.{tagsUpTo, labelsOf, labels-decoded}
+use Rattle.record_tags.specs.Cursors.{NextAt, every}
+use Rattle.label_records.specs.Records.{recordOf, refusalOf}
 use Rattle.metric_name.specs.Lookups.{stateOf, stateNumber, FoundAt, valueFrom, lookupAt, ValueWithin, ValueAt}
-use Rattle.labels.specs.declared.Place.{Place}
-use Rattle.labels.specs.declared.Place.the-variants.{At, Short}
-use Rattle.metric_name.specs.declared.Next.{Next}
-use Rattle.metric_name.specs.declared.Next.the-variants as N
-use Rattle.metric_name.specs.declared.Record.{Record}
-use Rattle.metric_name.specs.declared.Record.the-variants as R
+use Rattle.fields.specs.declared.Place.{Place}
+use Rattle.fields.specs.declared.Place.the-variants.{At, Short}
+use Rattle.record_tags.specs.declared.Next.{Next}
+use Rattle.record_tags.specs.declared.Next.the-variants as N
+use Rattle.label_records.specs.declared.Record.{Record}
+use Rattle.label_records.specs.declared.Record.the-variants as R
 use Rattle.metric_name.specs.declared.Value.{Value}
 use Rattle.metric_name.specs.declared.Value.the-variants as Vs
 use Rattle.metric_name.specs.declared.TagState.{TagState}
 use Rattle.metric_name.specs.declared.TagState.the-variants as S
-use Rattle.labels.proofs.Fields.{placed, unplaced, Placed}
-use Rattle.metric_name.proofs.Cursors.{next-stands, next-tags, next-ended}
+use Rattle.fields.proofs.Fields.{placed, unplaced, Placed}
+use Rattle.record_tags.proofs.Cursors.{next-stands, next-tags, next-ended}
 
 module _ (s : List ℕ) (x : Place) (hx : x ≡ fieldAt s 0) where
   pub name-found : (a e : ℕ) → x ≡ At a e → FoundAt s (At a e) (some (labelsOf s .name))

@@ -1,4 +1,1 @@
-pub mod Records
-pub mod Lenient
-pub mod Cursors
 pub mod Lookups

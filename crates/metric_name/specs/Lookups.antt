@@ -5,8 +5,8 @@ use mathlib.Core.Option.{Option, none, some}
 use mathlib.Core.List.{List}
 use lib.ListN.{length, take, drop}
 use Rattle.model.specs.Record.{Lookup, present, absent, inCut, inBad}
-use Rattle.labels.specs.declared.Place.{Place}
-use Rattle.labels.specs.declared.Place.the-variants.{At, Short}
+use Rattle.fields.specs.declared.Place.{Place}
+use Rattle.fields.specs.declared.Place.the-variants.{At, Short}
 use Rattle.metric_name.specs.declared.Value.{Value}
 use Rattle.metric_name.specs.declared.Value.the-variants as Vs
 use Rattle.metric_name.specs.declared.TagState.{TagState}

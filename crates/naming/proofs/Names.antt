@@ -1,14 +1,14 @@
 -- `naming_of`, `naming_size` and `put_naming`, way by way. Assumes nothing.
 use Prim.Native.Nat.{ℕ, _+_, _≤_}
-use mathlib.Core.Path.{_≡_, refl, sym}
+use mathlib.Core.Path.{_≡_, refl}
 use mathlib.Core.Bool.{Bool, true, false, cond}
 use mathlib.Core.List.{List, [], _∷_}
 use lib.ListN.{length}
 use Rattle.model.specs.Labels.{nameLabel}
 use Rattle.model.specs.Record.{encodeField}
 use Rattle.model.specs.Edits.{Names, isListed}
-use Rattle.metric_name.specs.Lenient.{labelsOf}
-use Rattle.label_edits.specs.Written.{Put}
+use Rattle.record_tags.specs.Lenient.{labelsOf}
+use Rattle.writing.specs.Written.{Put}
 use Rattle.naming.specs.Namings.{namingOf, nameOf}
 use Rattle.naming.specs.declared.Naming.{Naming}
 use Rattle.naming.specs.declared.Naming.the-variants.{Nobody, Many, Source}

@@ -4,7 +4,7 @@ use mathlib.Core.Bool.{Bool, not, _&&_, cond}
 use mathlib.Core.List.{List, []}
 use Rattle.model.specs.Labels.{nameLabel}
 use Rattle.model.specs.Edits.{Names, isListed}
-use Rattle.metric_name.specs.Lenient.{labelsOf}
+use Rattle.record_tags.specs.Lenient.{labelsOf}
 use Rattle.naming.specs.declared.Naming.{Naming}
 use Rattle.naming.specs.declared.Naming.the-variants.{Nobody, Many, Source}
 

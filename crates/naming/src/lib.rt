@@ -6,7 +6,7 @@ ghost use Prim.Native.Nat.{_+_, _≤_};
 ghost use lib.ListN.{length};
 ghost use Rattle.model.specs.Record.{encodeField};
 ghost use Rattle.labels.specs.Names.{namesOf};
-ghost use Rattle.label_edits.specs.Written.{Put};
+ghost use Rattle.writing.specs.Written.{Put};
 ghost use Rattle.naming.specs.Namings.{namingOf, nameOf};
 
 // Where an edited record's name comes from.
@@ -41,8 +41,8 @@ pub fn naming_size(many: &[u8], source: &[u8], naming: Naming) -> usize
 {
     match naming {
         Naming::Nobody => 1,
-        Naming::Many => label_edits::name_size(many, true),
-        Naming::Source => label_edits::name_size(source, true),
+        Naming::Many => record_names::name_size(many, true),
+        Naming::Source => record_names::name_size(source, true),
     }
 }
 
@@ -52,8 +52,8 @@ pub fn put_naming(out: &mut [u8], at: usize, many: &[u8], source: &[u8], naming:
     ensures { λ r. ⌜ Put (now (out .entry)) at (encodeField (nameOf naming (now (many .entry)) (now (source .entry)))) (now (out .exit)) r ⌝ }
 {
     match naming {
-        Naming::Nobody => label_edits::put_byte(out, at, 0),
-        Naming::Many => label_edits::put_name(out, at, many, true),
-        Naming::Source => label_edits::put_name(out, at, source, true),
+        Naming::Nobody => writing::put_byte(out, at, 0),
+        Naming::Many => record_names::put_name(out, at, many, true),
+        Naming::Source => record_names::put_name(out, at, source, true),
     }
 }

@@ -6,12 +6,12 @@ use mathlib.Core.List.{List, [], _∷_}
 use native.Mathlib.Nat.{suc-mul, mul-le-mul-right}
 use native.Mathlib.Omega.{arith}
 use lib.Dec.{eqb}
-use lib.ListN.{length, getD, drop, drop-of-length-le}
+use lib.ListN.{length, getD, drop-of-length-le}
 use Rattle.model.specs.Limits.{maxSeries}
 use Rattle.model.specs.Lists.{isEmpty}
-use Rattle.plan.specs.Keys.{firstOf, lastOf}
+use Rattle.plan.specs.Keys.{KeyEnds}
 use Rattle.plan.specs.Sets.{placesOf, metPlaces}
-use Rattle.noting.specs.Places.{NotedIf, NotedAll, KeyEnds, Within, RightSide}
+use Rattle.noting.specs.Places.{NotedIf, NotedAll, Within, RightSide}
 use Rattle.noting.proofs.Between.{from-first, some-place, last-within, one-place}
 
 -- the places of a key are few, and places

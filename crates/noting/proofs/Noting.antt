@@ -1,20 +1,17 @@
 -- Numbers noted in an array: one where a test holds, and the places of a key. Assumes nothing.
-use Prim.Native.Nat.{ℕ, zero, suc, _+_, _*_, _≤_, _<_}
+use Prim.Native.Nat.{ℕ, _+_, _*_, _≤_, _<_}
 use mathlib.Core.Path.{_≡_, refl, sym, ap, _∙_}
 use mathlib.Core.Bool.{Bool, true, false, _&&_, cond}
 use mathlib.Core.List.{List, [], _∷_, _++_}
 use native.Mathlib.Numerals.{add-one}
-use native.Mathlib.Nat.{zero-add, add-zero, suc-mul, mul-le-mul-right, zero-mul}
+use native.Mathlib.Nat.{zero-add}
 use native.Mathlib.Omega.{arith}
 use lib.Dec.{eqb}
-use lib.ListN.{length, getD, take, drop, set, length-append}
+use lib.ListN.{length, getD, take, drop, set}
 use lib.Seq.{drop-cons, set-out, sets, sets-eq, length-sets, take-at}
-use borrow.Author.Tests.{eq-eqb, ne-eqb}
-use Rattle.model.specs.Limits.{maxSeries}
-use Rattle.model.specs.Lists.{isEmpty, cases}
-use Rattle.plan.specs.Keys.{firstOf}
-use Rattle.plan.specs.Sets.{placesOf, metPlaces}
-use Rattle.noting.specs.Places.{NotedIf, NotedAll, KeyEnds}
+use Rattle.plan.specs.Keys.{KeyEnds}
+use Rattle.plan.specs.Sets.{placesOf}
+use Rattle.noting.specs.Places.{NotedIf, NotedAll}
 use Rattle.noting.proofs.Between.{from-first, behind-last}
 
 -- one number

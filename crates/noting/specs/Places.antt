@@ -6,7 +6,6 @@ use mathlib.Core.List.{List}
 use lib.ListN.{length, getD, set}
 use lib.Seq.{sets}
 use Rattle.model.specs.Limits.{maxSeries}
-use Rattle.plan.specs.Keys.{firstOf, lastOf}
 
 -- a number noted at the place n, where a test holds; the count goes on
 pub record NotedIf (here : Bool) (x n : ℕ) (before after : List ℕ) (r : ℕ) : Type 0 where
@@ -17,11 +16,6 @@ pub record NotedIf (here : Bool) (x n : ℕ) (before after : List ℕ) (r : ℕ)
 pub record NotedAll (xs : List ℕ) (n : ℕ) (before after : List ℕ) (r : ℕ) : Type 0 where
   pub count : r ≡ n + length xs
   pub content : after ≡ sets before n xs
-
--- the first and the last place of the key k, or the number of places where it has none
-pub record KeyEnds (keys : List ℕ) (k first last : ℕ) : Type 0 where
-  pub first-place : first ≡ firstOf keys k
-  pub last-place : last ≡ lastOf keys k
 
 -- the rows of the places, p readings wide, lie within the readings
 pub record Within (p : ℕ) (rows places : List ℕ) : Type 0 where

@@ -3,11 +3,12 @@ ghost use mathlib.Core.Path.{_≡_};
 ghost use Prim.Native.Nat.{_+_, _≤_, _<_};
 ghost use lib.ListN.{length, set};
 ghost use Rattle.model.specs.Limits.{maxSeries};
+ghost use Rattle.plan.specs.Keys.{KeyEnds};
 ghost use Rattle.plan.specs.Sets.{placesOf, metPlaces};
-ghost use Rattle.noting.specs.Places.{NotedIf, NotedAll, KeyEnds};
+ghost use Rattle.noting.specs.Places.{NotedIf, NotedAll};
 
 // Writes a number at the place n of a list, unless the list is full.
-fn note(list: &mut [usize], n: usize, x: usize)
+pub fn note(list: &mut [usize], n: usize, x: usize)
     ensures { λ _. ⌜ now (list .exit) ≡ set (now (list .entry)) n x ⌝ }
 {
     if n < list.len() {

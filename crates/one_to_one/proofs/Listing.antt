@@ -2,7 +2,7 @@
 use Prim.Native.Nat.{ℕ, zero, suc, _+_, _≤_, _<_}
 use mathlib.Core.Path.{_≡_, refl, sym, ap, _∙_}
 use mathlib.Core.Bool.{Bool, true, false, cond}
-use mathlib.Core.Option.{Option, none, some}
+use mathlib.Core.Option.{Option, none}
 use mathlib.Core.List.{List, [], _∷_}
 use native.Mathlib.Nat.{zero-add}
 use native.Mathlib.Omega.{arith}
@@ -13,13 +13,14 @@ use Rattle.model.specs.Labels.{Labels}
 use Rattle.model.specs.Query as Model
 use Rattle.model.specs.Query.{Side, left, right}
 use Rattle.model.specs.Row.{twoOverlaps}
+use Rattle.plan.specs.Laws.Common.{both-none}
 use Rattle.semantics.specs.Events.{Duplicate}
-use Rattle.label_edits.specs.Written.{written, Put}
+use Rattle.writing.specs.Written.{written, Put}
 use Rattle.plan.specs.Keys.{lastOf}
 use Rattle.plan.specs.Merging.{RowMerge, row, failedAt, mergeLast, clash}
 use Rattle.plan.specs.Conclude.{orElse}
 use Rattle.plan.specs.Pairs.{isPair, pairClash, pairsClash, pairsFrom}
-use Rattle.merging.specs.Laws.{last-within, last-is}
+use Rattle.tried_merges.specs.Laws.{last-within, last-is}
 use Rattle.pairs.specs.Pairing.{sidesOf, PairSides, failureOf}
 use Rattle.pairs.proofs.Pairing.{pair-left, pair-right}
 use Rattle.pairs.proofs.Lists.{pairs-at-most}
@@ -30,17 +31,9 @@ use Rattle.one_to_one.specs.Answers.{answerOf, Listed, Clear}
 
 -- neither of two is there
 
-first-none : (a b : Option Duplicate) → orElse a b ≡ none → a ≡ none
-first-none none b h = refl
-first-none (some d) b h = h
-
-second-none : (a b : Option Duplicate) → orElse a b ≡ none → b ≡ none
-second-none none b h = h
-second-none (some d) b h = cc
-
 merges : (side : Side) (kept : ℕ) (u : RowMerge) → clash side kept u ≡ none → failureOf u ≡ none
 merges side kept (row d) h = refl
-merges side kept (failedAt i) h = cc
+merges side kept (failedAt i d) h = cc
 
 module _ (allowance p : ℕ) (lefts lkeys rights rkeys : List ℕ) (s : PairSides p lefts lkeys rights rkeys) where
   place-paired : (k i : ℕ) → isPair lkeys rkeys k i ≡ true → i < length lkeys → pairClash allowance (sidesOf p lefts lkeys rights rkeys) k ≡ none → Paired allowance (sidesOf p lefts lkeys rights rkeys) (lastOf lkeys k)
@@ -50,8 +43,8 @@ module _ (allowance p : ℕ) (lefts lkeys rights rkeys : List ℕ) (s : PairSide
       let clashes-right = clash right (lastOf rkeys k) (mergeLast allowance p rights rkeys k) in
       record {
         within = last-within k lkeys stands;
-        lefts = rw (last-is k lkeys stands) (record { level = s .lefts; stands = stands; single = merges left (lastOf lkeys k) (mergeLast allowance p lefts lkeys k) (first-none clashes clashes-right c) });
-        rights = rw (last-is k lkeys stands) (record { level = s .rights; stands = pair-right lkeys rkeys k i true (sym e) refl; single = merges right (lastOf rkeys k) (mergeLast allowance p rights rkeys k) (second-none clashes clashes-right c) });
+        lefts = rw (last-is k lkeys stands) (record { level = s .lefts; stands = stands; single = merges left (lastOf lkeys k) (mergeLast allowance p lefts lkeys k) (both-none clashes clashes-right c .0) });
+        rights = rw (last-is k lkeys stands) (record { level = s .rights; stands = pair-right lkeys rkeys k i true (sym e) refl; single = merges right (lastOf rkeys k) (mergeLast allowance p rights rkeys k) (both-none clashes clashes-right c .1) });
       }
 
   each-paired : (rest : List ℕ) (i : ℕ) → i + length rest ≤ length lkeys → pairsClash allowance (sidesOf p lefts lkeys rights rkeys) i rest ≡ none → (r : ℕ) → r < length (pairsFrom lkeys rkeys i rest) → Paired allowance (sidesOf p lefts lkeys rights rkeys) (getD (pairsFrom lkeys rkeys i rest) r 0)
@@ -66,8 +59,8 @@ module _ (allowance p : ℕ) (lefts lkeys rights rkeys : List ℕ) (s : PairSide
           → (b : Bool) → isPair lkeys rkeys k i ≡ b → orElse (cond b (pairClash allowance (sidesOf p lefts lkeys rights rkeys) k) none) later ≡ none
           → (r : ℕ) → r < length (cond b (lastOf lkeys k ∷ pairsFrom lkeys rkeys (suc i) rest) (pairsFrom lkeys rkeys (suc i) rest))
           → Paired allowance (sidesOf p lefts lkeys rights rkeys) (getD (cond b (lastOf lkeys k ∷ pairsFrom lkeys rkeys (suc i) rest) (pairsFrom lkeys rkeys (suc i) rest)) r 0)
-      go ih true e c zero h = place-paired k i e (omega arith) (first-none (pairClash allowance (sidesOf p lefts lkeys rights rkeys) k) later c)
-      go ih true e c (suc r) h = ih (second-none (pairClash allowance (sidesOf p lefts lkeys rights rkeys) k) later c) r (omega arith)
+      go ih true e c zero h = place-paired k i e (omega arith) (both-none (pairClash allowance (sidesOf p lefts lkeys rights rkeys) k) later c .0)
+      go ih true e c (suc r) h = ih (both-none (pairClash allowance (sidesOf p lefts lkeys rights rkeys) k) later c .1) r (omega arith)
       go ih false e c r h = ih c r h
 
 -- what is listed is the left places of the answer

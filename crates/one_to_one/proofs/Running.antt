@@ -12,7 +12,7 @@ use Rattle.answers.specs.declared.Outcome.{Outcome}
 use Rattle.answers.specs.declared.Outcome.the-variants as Out
 use Rattle.answers.specs.Outcomes.{Ran}
 use Rattle.answers.proofs.Concluding.{ran-left-twice, ran-right-twice, ran-without-clash}
-use Rattle.key_ends.specs.Codes.{PairEnds}
+use Rattle.end_codes.specs.Codes.{PairEnds}
 use Rattle.pair_checks.specs.declared.Checked.{Checked}
 use Rattle.pair_checks.specs.declared.Checked.the-variants as C
 use Rattle.pair_checks.specs.Checks.{clashIn}

@@ -12,9 +12,10 @@ use Rattle.semantics.specs.Call.{Outcome, fit}
 use Rattle.plan.specs.Conclude.{conclude}
 use Rattle.plan.specs.Pairs.{Sides, pairsClash, pairsFrom, pairSeries}
 use Rattle.answers.specs.Outcomes.{startingWith}
-use Rattle.key_ends.specs.Codes.{PairEnds}
-use Rattle.pair_labels.specs.Edits.{pairLabels}
-use Rattle.pair_labels.specs.Records.{LeftLabels, PlacesIn, LabelsPut}
+use Rattle.answers.specs.Tallies.{RecordsPut}
+use Rattle.end_codes.specs.Codes.{PairEnds}
+use Rattle.adjusted_labels.specs.Edits.{pairLabels}
+use Rattle.pair_labels.specs.Records.{LeftLabels, PlacesIn}
 use Rattle.pairs.specs.Pairing.{PairSides, sidesOf}
 use Rattle.pair_rows.specs.Rows.{pairedRow, PairedRows}
 
@@ -46,5 +47,5 @@ pub record Clear (p : ℕ) (array at lkeys left rkeys right ends : List ℕ) : T
 
 -- the records of left places at the start of one part, r their bytes, and their rows at the start of the other
 pub record PairsPut (q : Model.Query) (s : Sides) (labels : List Labels) (list d₀ d e₀ e : List ℕ) (r : ℕ) : Type 0 where
-  pub records : LabelsPut (pairLabels q labels) list d₀ d r
+  pub records : RecordsPut (pairLabels q labels) list d₀ d r
   pub rows : e ≡ startingWith (gather (pairedRow (q .operator) (q .bool) twoOverlaps s) list) e₀

@@ -7,17 +7,14 @@ ghost use mathlib.Core.Path.{_≡_};
 ghost use Prim.Native.Nat.{_+_, _*_, _≤_};
 ghost use lib.ListN.{length};
 ghost use Rattle.plan.specs.Pairs.{pairsFrom};
-ghost use Rattle.timeseries.specs.Sides.{labelsIn};
+ghost use Rattle.side_parts.specs.Sides.{labelsIn};
 ghost use Rattle.answers.specs.Outcomes.{Ran};
 ghost use Rattle.answers.specs.Tallies.{recordsOf};
-ghost use Rattle.key_ends.specs.Codes.{PairEnds};
-ghost use Rattle.pair_labels.specs.Edits.{queryBy, pairLabels};
+ghost use Rattle.end_codes.specs.Codes.{PairEnds};
+ghost use Rattle.adjusted_labels.specs.Edits.{queryBy, pairLabels};
 ghost use Rattle.pair_labels.specs.Records.{LeftLabels};
 ghost use Rattle.pairs.specs.Pairing.{sidesOf, PairSides};
 ghost use Rattle.one_to_one.specs.Answers.{answerOf, oneToOne, Listed, Clear, PairsPut};
-
-// The overlapping places that a merge allows.
-const ALLOWED_OVERLAPS: usize = 2;
 
 // Writes the records and the rows of left places, and gives the bytes of the records.
 fn put_pairs(
@@ -51,7 +48,7 @@ fn put_pairs(
         ends,
         list,
         p,
-        ALLOWED_OVERLAPS,
+        merge::ALLOWED_OVERLAPS,
         out,
     );
     pair_labels::put_pair_labels(array, at, list, q, names, labels)
@@ -163,7 +160,7 @@ fn run_noted(
     requires { ⌜ length (now at) ≡ length (now lkeys) + 1 ⌝ }
     ensures { λ r. ⌜ Ran (oneToOne (queryBy (now (names .entry)) q) (length (now (labels .entry))) (length (now (out .entry))) (sidesOf p (now (left .entry)) (now (lkeys .entry)) (now (right .entry)) (now (rkeys .entry))) (labelsIn (now (array .entry)) (now (at .entry)))) (now (labels .entry)) (now (out .entry)) (now (labels .exit)) (now (out .exit)) r ⌝ }
 {
-    match pair_checks::check_pairs(left, lkeys, right, rkeys, ends, p, ALLOWED_OVERLAPS) {
+    match pair_checks::check_pairs(left, lkeys, right, rkeys, ends, p, merge::ALLOWED_OVERLAPS) {
         Checked::Left { kept, failed } => Outcome::LeftTwice { kept, failed },
         Checked::Right { kept, failed } => Outcome::RightTwice { kept, failed },
         Checked::Fine => answer_all(

@@ -13,8 +13,8 @@ use borrow.Author.Tests.{ltb-false}
 use Rattle.model.specs.Row.{overwritten, merged}
 use Rattle.model.specs.Query as Model
 use Rattle.semantics.specs.Events.{Duplicate}
-use Rattle.key_ends.specs.Codes.{leftLast, rightLast, CodeOf, left-last, right-last}
-use Rattle.plan.specs.Keys.{firstOf, lastOf}
+use Rattle.end_codes.specs.Codes.{leftLast, rightLast, CodeOf, left-last, right-last}
+use Rattle.plan.specs.Keys.{firstOf, lastOf, KeyEnds}
 use Rattle.plan.specs.Merging.{RowMerge, row, failedAt, rowAt, mergeLast, clash}
 use Rattle.plan.specs.Conclude.{orElse}
 use Rattle.plan.specs.Pairs.{Sides, isPair, pairClash, pairsClash}
@@ -22,8 +22,8 @@ use Rattle.merging.specs.declared.Merges.{Merges}
 use Rattle.merging.specs.declared.Merges.the-variants.{Done, FailedAt}
 use Rattle.merge.specs.Merging.{mergedIf}
 use Rattle.answers.proofs.Rows.{row-in}
-use Rattle.merging.specs.Groups.{Ends, mergesTo, MergedGroup}
-use Rattle.merging.specs.Laws.{single-row, none-among, first-last, ends-within, several, several-merged}
+use Rattle.merging.specs.Groups.{mergesTo, MergedGroup}
+use Rattle.tried_merges.specs.Laws.{single-row, none-among, first-last, ends-within, several-stand, several, several-merged}
 use Rattle.pair_checks.specs.declared.Checked.{Checked}
 use Rattle.pair_checks.specs.declared.Checked.the-variants as C
 use Rattle.pairs.specs.Pairing.{sidesOf, Level, failureOf}
@@ -31,23 +31,26 @@ use Rattle.pair_checks.specs.Checks.{failedIn, clashIn, clashAt}
 
 -- `ensure_merges`
 
-module _ (allowance p : ℕ) (rows keys : List ℕ) (k first last : ℕ) (level : Level p rows keys) (e : Ends keys k first last) where
+module _ (allowance p : ℕ) (rows keys : List ℕ) (k first last : ℕ) (level : Level p rows keys) (e : KeyEnds keys k first last) (h : first < last) where
+  first-in : first < length keys
+  first-in = several-stand allowance p rows k keys first last e h
+
   last-in : last < length keys
-  last-in = ends-within allowance p rows k keys first last e
+  last-in = ends-within allowance p rows k keys first last e first-in
 
   pub last-there : last * p + p ≤ length rows
   last-there = omega (arith, row-in last (length keys) p last-in, level .whole)
 
   pub first-there : first * p + p ≤ length rows
-  first-there = omega (arith, row-in first (length keys) p (e .stands), level .whole)
+  first-there = omega (arith, row-in first (length keys) p first-in, level .whole)
 
   pub last-inside : last ≤ length keys
   last-inside = omega (arith, last-in)
 
   pub key-there : firstOf keys k < length keys
-  key-there = rw (← e .first-place) (e .stands)
+  key-there = rw (← e .first-place) first-in
 
-  module _ (h : first < last) (m : Bool) (hm : mergedIf m (rowAt p rows last) (rowAt p rows first) ≡ merged allowance (rowAt p rows last) (rowAt p rows first)) where
+  module _ (m : Bool) (hm : mergedIf m (rowAt p rows last) (rowAt p rows first) ≡ merged allowance (rowAt p rows last) (rowAt p rows first)) where
     pub first-fails : m ≡ false → some first ≡ failureOf (mergeLast allowance p rows keys k)
     first-fails f = rw (several allowance p rows k keys first last e h, ← hm, f)
 
@@ -65,9 +68,9 @@ module _ (allowance p : ℕ) (rows keys : List ℕ) (k first last : ℕ) (level 
 
 -- `ensure_single_timeseries`
 
-pub single-fine : (allowance p : ℕ) (rows keys : List ℕ) (k first last : ℕ) → Ends keys k first last → last ≤ first → none ≡ failureOf (mergeLast allowance p rows keys k)
+pub single-fine : (allowance p : ℕ) (rows keys : List ℕ) (k first last : ℕ) → KeyEnds keys k first last → last ≤ first → none ≡ failureOf (mergeLast allowance p rows keys k)
 single-fine allowance p rows keys k first last e le =
-    let same : firstOf keys k ≡ lastOf keys k = omega (arith, first-last allowance p rows k keys (rw (← e .first-place) (e .stands)), e .first-place, e .last-place, le) in
+    let same : firstOf keys k ≡ lastOf keys k = omega (arith, first-last k keys, e .first-place, e .last-place, le) in
     rw (single-row allowance p rows k keys same)
 
 same-failure : (r : Merges) (d : List ℕ) → failedIn r ≡ failureOf (mergesTo r d)
@@ -90,14 +93,14 @@ module _ (p : ℕ) (work : List ℕ) (h : p ≤ length work) (rows keys : List �
 
 clash-of : (side : Model.Side) (kept : ℕ) (u : RowMerge) → none ≡ failureOf u → none ≡ clash side kept u
 clash-of side kept (row d) h = refl
-clash-of side kept (failedAt i) h = absurd (let z : _≡_ {A = ℕ} 0 1 = cc in omega arith)
+clash-of side kept (failedAt i d) h = absurd (let z : _≡_ {A = ℕ} 0 1 = cc in omega arith)
 
 abbrev duplicateOf : Model.Side → ℕ → ℕ → Duplicate
 duplicateOf side kept i = record { kept = record { side = side; number = kept }; failed = record { side = side; number = i } }
 
 clash-at : (side : Model.Side) (kept i : ℕ) (u : RowMerge) → some i ≡ failureOf u → some (duplicateOf side kept i) ≡ clash side kept u
 clash-at side kept i (row d) h = absurd (let z : _≡_ {A = ℕ} 0 1 = cc in omega arith)
-clash-at side kept i (failedAt j) h = let z : i ≡ j = cc in rw z
+clash-at side kept i (failedAt j d) h = let z : i ≡ j = cc in rw z
 
 module _ (allowance p : ℕ) (left lkeys right rkeys : List ℕ) (k : ℕ) (a : Merges) (ha : failedIn a ≡ failureOf (mergeLast allowance p left lkeys k)) where
   abbrev wanted : Option Duplicate

@@ -3,11 +3,10 @@ use merging::Merges;
 ghost use mathlib.Core.Path.{_≡_};
 ghost use Prim.Native.Nat.{_≤_, _<_};
 ghost use lib.ListN.{length, getD};
-ghost use Rattle.plan.specs.Keys.{firstOf};
+ghost use Rattle.plan.specs.Keys.{firstOf, KeyEnds};
 ghost use Rattle.plan.specs.Merging.{mergeLast};
 ghost use Rattle.plan.specs.Pairs.{pairClash, pairsClash};
-ghost use Rattle.merging.specs.Groups.{Ends};
-ghost use Rattle.key_ends.specs.Codes.{CodeOf, PairEnds};
+ghost use Rattle.end_codes.specs.Codes.{CodeOf, PairEnds};
 ghost use Rattle.pairs.specs.Pairing.{sidesOf, Level, PairSides, failureOf};
 ghost use Rattle.pair_checks.specs.Checks.{failedIn, clashIn, clashAt};
 
@@ -39,12 +38,12 @@ fn ensure_merges(
     allowance: usize,
 ) -> Merges
     requires { ⌜ Level p (now rows) (now keys) ⌝ }
-    requires { ⌜ Ends (now keys) k first last ⌝ }
+    requires { ⌜ KeyEnds (now keys) k first last ⌝ }
     requires { ⌜ first < last ⌝ }
     ensures { λ r. ⌜ failedIn r ≡ failureOf (mergeLast allowance p (now (rows .entry)) (now (keys .entry)) k) ⌝ }
 {
-    if merging::row_merges(rows, p, last, first, allowance) {
-        if merging::stands_between(keys, k, first + 1, last) {
+    if tried_merges::row_merges(rows, p, last, first, allowance) {
+        if tried_merges::stands_between(keys, k, first + 1, last) {
             let mut work = [0u64; 1024];
             return try_last(rows, keys, k, p, allowance, &mut work);
         }
@@ -64,7 +63,7 @@ fn ensure_single_timeseries(
     allowance: usize,
 ) -> Merges
     requires { ⌜ Level p (now rows) (now keys) ⌝ }
-    requires { ⌜ Ends (now keys) k first last ⌝ }
+    requires { ⌜ KeyEnds (now keys) k first last ⌝ }
     ensures { λ r. ⌜ failedIn r ≡ failureOf (mergeLast allowance p (now (rows .entry)) (now (keys .entry)) k) ⌝ }
 {
     if first < last {
@@ -97,16 +96,16 @@ fn check_pair(
     requires { ⌜ firstOf (now rkeys) k < length (now rkeys) ⌝ }
     ensures { λ r. ⌜ clashIn r ≡ pairClash allowance (sidesOf p (now (left .entry)) (now (lkeys .entry)) (now (right .entry)) (now (rkeys .entry))) k ⌝ }
 {
-    let last = key_ends::left_last(c);
-    match ensure_single_timeseries(left, lkeys, k, key_ends::left_first(c), last, p, allowance) {
+    let last = end_codes::left_last(c);
+    match ensure_single_timeseries(left, lkeys, k, end_codes::left_first(c), last, p, allowance) {
         Merges::FailedAt(failed) => Checked::Left { kept: last, failed },
         Merges::Done => {
-            let last = key_ends::right_last(c);
+            let last = end_codes::right_last(c);
             match ensure_single_timeseries(
                 right,
                 rkeys,
                 k,
-                key_ends::right_first(c),
+                end_codes::right_first(c),
                 last,
                 p,
                 allowance,

@@ -1,15 +1,11 @@
--- The records of one-to-one: what is asked of the left labels and of the places, and what is written. Assumes nothing.
+-- The records of one-to-one: what is asked of the left labels and of the places. Assumes nothing.
 use Prim.Native.Nat.{ℕ, _+_, _≤_, _<_}
-use mathlib.Core.Path.{_≡_}
 use mathlib.Core.List.{List}
 use lib.ListN.{length, getD}
 use Rattle.model.specs.Limits.{maxSeries, maxLabelBytes}
-use Rattle.model.specs.Labels.{Labels}
 use Rattle.plan.specs.Pairs.{noLabels}
-use Rattle.timeseries.specs.Sides.{labelsIn, Positions}
-use Rattle.answers.specs.Outcomes.{startingWith}
-use Rattle.answers.specs.Tallies.{recordsOf}
-use Rattle.pair_labels.specs.Edits.{InOrder}
+use Rattle.side_parts.specs.Sides.{labelsIn, Positions}
+use Rattle.adjusted_labels.specs.Edits.{InOrder}
 
 -- what is asked of the left labels: an array within the limit, cut into records whose keys ascend
 pub record LeftLabels (array at : List ℕ) : Type 0 where
@@ -21,8 +17,3 @@ pub record LeftLabels (array at : List ℕ) : Type 0 where
 pub record PlacesIn (rows at : List ℕ) : Type 0 where
   pub few : length rows ≤ maxSeries
   pub each : (r : ℕ) → r < length rows → getD rows r 0 + 1 < length at
-
--- the records of rows at the start of d, and r is their bytes
-pub record LabelsPut (f : ℕ → Labels) (rows d₀ d : List ℕ) (r : ℕ) : Type 0 where
-  pub out : d ≡ startingWith (recordsOf f rows) d₀
-  pub bytes : r ≡ length (recordsOf f rows)

@@ -3,29 +3,23 @@ use Prim.Native.Nat.{ℕ, _+_, _-_, _*_, _≤_, _<_}
 use mathlib.Core.Path.{_≡_}
 use mathlib.Core.Bool.{Bool}
 use mathlib.Core.List.{List}
-use native.Mathlib.Nat.{mul-le-mul}
 use native.Mathlib.Omega.{arith}
 use mir.Syntax.{w64}
 use mir.Val.{Fits}
-use lib.ListN.{length, getD, take, drop, length-take, length-drop}
+use lib.ListN.{length, getD, take, drop}
 use borrow.Rule.Slice.PartMut.{putMid}
 use Rattle.operator.specs.declared.Operator.{Operator}
 use Rattle.model.specs.Reading.{scalarOp}
 use Rattle.model.specs.Laws.Row.{zip-wide}
-use Rattle.answers.proofs.Rows.{RowsWriting, rows-start, row-within, rows-turn}
-use Rattle.key_ends.specs.Codes.{CodeOf, PairEnds, code-at}
+use Rattle.answers.proofs.Rows.{RowsWriting, rows-start, part-wide, rows-turn}
+use Rattle.end_codes.specs.Codes.{CodeOf, PairEnds, code-at}
 use Rattle.pairs.specs.Pairing.{sidesOf}
 use Rattle.pair_rows.specs.Rows.{sideRow, pairedRow, Paired, PairedRows}
 use Rattle.pair_rows.proofs.Widths.{merged-wide}
 
--- row r begins and ends at numbers of one word
+-- the place of row r has a code of its key
 
 module _ (allowance p : ℕ) (left lkeys right rkeys list : List ℕ) (w : PairedRows allowance (sidesOf p left lkeys right rkeys) list) (r : ℕ) (h : r < length list) where
-  most : r * p ≤ 524288
-  most = let few : r ≤ 512 = omega (arith, w .few) in let z : r * p ≤ 512 * 1024 = mul-le-mul few (w .narrow) in omega arith
-
-  -- and its place has a code of its key
-
   module _ (ends : List ℕ) (e : PairEnds lkeys rkeys ends) where
     pub listed-in : getD list r 0 < length ends
     listed-in = omega (arith, w .each r h .within, e .room)
@@ -35,15 +29,6 @@ module _ (allowance p : ℕ) (left lkeys right rkeys list : List ℕ) (w : Paire
 
     pub listed-code : CodeOf lkeys rkeys (getD lkeys (getD list r 0) 0) (getD ends (getD list r 0) 0)
     listed-code = code-at lkeys rkeys ends e (getD list r 0) (w .each r h .within)
-
-  pub from-fits : Fits w64 (r * p)
-  from-fits = omega (arith, most)
-
-  pub to-fits : Fits w64 (r * p + p)
-  to-fits = omega (arith, most, w .narrow)
-
-  pub bytes-fit : Fits w64 (r * p * 8)
-  bytes-fit = omega (arith, most)
 
 module _ (op : Operator) (bool : Bool) (allowance p : ℕ) (left lkeys right rkeys list : List ℕ) (w : PairedRows allowance (sidesOf p left lkeys right rkeys) list) where
   paired-wide : (j : ℕ) → Paired allowance (sidesOf p left lkeys right rkeys) j → length (pairedRow op bool allowance (sidesOf p left lkeys right rkeys) j) ≡ p
@@ -56,12 +41,12 @@ module _ (op : Operator) (bool : Bool) (allowance p : ℕ) (left lkeys right rke
       rows-start (pairedRow op bool allowance (sidesOf p left lkeys right rkeys)) p list out (record { each = λ r l. paired-wide (getD list r 0) (w .each r l) }) h
 
   module _ (out₀ : List ℕ) (r : ℕ) (out : List ℕ) (inv : RowsWriting (pairedRow op bool allowance (sidesOf p left lkeys right rkeys)) p list out₀ r out) (h : r < length list) where
-    part-wide : length (take (r * p + p - r * p) (drop (r * p) out)) ≡ p
-    part-wide = simp (length-take, length-drop) (omega (arith, row-within (pairedRow op bool allowance (sidesOf p left lkeys right rkeys)) p list out₀ r out inv h))
+    wide : length (take (r * p + p - r * p) (drop (r * p) out)) ≡ p
+    wide = part-wide (pairedRow op bool allowance (sidesOf p left lkeys right rkeys)) p list out₀ r out inv h
 
     pub part-paired : Paired allowance (sidesOf (length (take (r * p + p - r * p) (drop (r * p) out))) left lkeys right rkeys) (getD list r 0)
-    part-paired = rw part-wide (w .each r h)
+    part-paired = rw wide (w .each r h)
 
     pub parts-turn : (y : List ℕ) → y ≡ pairedRow op bool allowance (sidesOf (length (take (r * p + p - r * p) (drop (r * p) out))) left lkeys right rkeys) (getD list r 0) → RowsWriting (pairedRow op bool allowance (sidesOf p left lkeys right rkeys)) p list out₀ (r + 1) (putMid (r * p) (r * p + p - r * p) out y)
     parts-turn y e =
-        rows-turn (pairedRow op bool allowance (sidesOf p left lkeys right rkeys)) p list out₀ r out inv h y (rw part-wide at e)
+        rows-turn (pairedRow op bool allowance (sidesOf p left lkeys right rkeys)) p list out₀ r out inv h y (rw wide at e)

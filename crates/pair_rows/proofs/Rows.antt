@@ -6,35 +6,34 @@ use mathlib.Core.Option.{none, some}
 use mathlib.Core.List.{List}
 use native.Mathlib.Omega.{arith}
 use lib.Dec.{leb, ltb}
-use lib.ListN.{length, take, drop, length-drop}
-use lib.Seq.{length-take-le}
+use lib.ListN.{length, take, drop}
 use Rattle.model.specs.Row.{zipWith, overlaps, overwritten, merged}
 use Rattle.merge.specs.Merging.{mergedIf}
-use Rattle.plan.specs.Keys.{firstOf, lastOf}
+use Rattle.plan.specs.Keys.{firstOf, lastOf, KeyEnds}
 use Rattle.plan.specs.Merging.{RowMerge, failedAt, onRow, rowAt, mergeGroup, mergeLast, rowOf}
 use Rattle.merging.specs.declared.Merges.{Merges}
 use Rattle.merging.specs.declared.Merges.the-variants.{Done, FailedAt}
-use Rattle.merging.specs.Groups.{Ends, mergesTo, MergedGroup}
-use Rattle.merging.specs.Laws.{single-row, first-last, ends-within, several}
-use Rattle.answers.proofs.Rows.{row-in}
-use Rattle.key_ends.specs.Codes.{leftFirst, leftLast, CodeOf, left-ends}
+use Rattle.merging.specs.Groups.{mergesTo, MergedGroup}
+use Rattle.tried_merges.specs.Laws.{single-row, first-last, ends-within, several}
+use Rattle.answers.proofs.Rows.{row-in, row-width}
+use Rattle.end_codes.specs.Codes.{leftFirst, leftLast, CodeOf, left-ends}
 use Rattle.pairs.specs.Pairing.{failureOf}
 use Rattle.pair_rows.specs.Rows.{SideMerged, sideRow}
 
 module _ (allowance p : ℕ) (rows keys : List ℕ) (k : ℕ) (s : SideMerged allowance p rows keys k) where
   -- a side of one series: its own row
 
-  module _ (first last : ℕ) (e : Ends keys k first last) where
+  module _ (first last : ℕ) (e : KeyEnds keys k first last) where
     pub side-room : last * p + p ≤ length rows
-    side-room = omega (arith, row-in last (length keys) p (ends-within allowance p rows k keys first last e), s .level .whole)
+    side-room = omega (arith, row-in last (length keys) p (ends-within allowance p rows k keys first last e (rw (e .first-place) (s .stands))), s .level .whole)
 
     module _ (x : List ℕ) (hx : x ≡ rowAt p rows last) where
       pub side-wide : length x ≡ p
-      side-wide = ap length hx ∙ length-take-le p (drop (last * p) rows) (omega (arith, side-room, length-drop (last * p) rows))
+      side-wide = row-width p rows x last side-room hx
 
       module _ (h : last ≤ first) (f : ℕ → ℕ → ℕ) (y z : List ℕ) where
         one : firstOf keys k ≡ lastOf keys k
-        one = omega (arith, first-last allowance p rows k keys (s .stands), e .first-place, e .last-place, h)
+        one = omega (arith, first-last k keys, e .first-place, e .last-place, h)
 
         side-single : x ≡ sideRow allowance p rows keys k
         side-single = hx ∙ rw (e .last-place, single-row allowance p rows k keys one)
@@ -50,7 +49,7 @@ module _ (allowance p : ℕ) (rows keys : List ℕ) (k : ℕ) (s : SideMerged al
     unfolding merged
     first-merges h = go (leb (length (rowAt p rows last)) 2 || ltb allowance (overlaps (rowAt p rows last) (rowAt p rows first))) (rw (several allowance p rows k keys first last e h) at (s .single))
       where
-        go : (b : Bool) → failureOf (onRow (cond b none (some (overwritten (rowAt p rows last) (rowAt p rows first)))) (failedAt first) (mergeGroup allowance p rows k (suc first) (take (last - suc first) (drop (suc first) keys)))) ≡ none → mergedIf true (rowAt p rows last) (rowAt p rows first) ≡ cond b none (some (overwritten (rowAt p rows last) (rowAt p rows first)))
+        go : (b : Bool) → failureOf (onRow (cond b none (some (overwritten (rowAt p rows last) (rowAt p rows first)))) (failedAt first (rowAt p rows last)) (mergeGroup allowance p rows k (suc first) (take (last - suc first) (drop (suc first) keys)))) ≡ none → mergedIf true (rowAt p rows last) (rowAt p rows first) ≡ cond b none (some (overwritten (rowAt p rows last) (rowAt p rows first)))
         go true g = absurd (let z : _≡_ {A = ℕ} 0 1 = cc in omega arith)
         go false g = refl
 
@@ -68,7 +67,7 @@ module _ (allowance p : ℕ) (rows keys : List ℕ) (k : ℕ) (s : SideMerged al
       merged-row want Done e g = ap rowOf e
       merged-row want (FailedAt i) e g = absurd (let z : _≡_ {A = ℕ} 0 1 = apart (ap failureOf e ∙ g) in omega arith)
         where
-          apart : failureOf (failedAt i) ≡ none → _≡_ {A = ℕ} 0 1
+          apart : failureOf (failedAt i work) ≡ none → _≡_ {A = ℕ} 0 1
           apart u = cc
 
       pub work-merged : work ≡ sideRow allowance p rows keys k
@@ -92,8 +91,8 @@ module _ (c first last : ℕ) (f : first ≡ leftFirst c) (l : last ≡ leftLast
 -- the left side of a coded key
 
 module _ (allowance p : ℕ) (rows lkeys rkeys : List ℕ) (k : ℕ) (s : SideMerged allowance p rows lkeys k) (c : ℕ) (hc : CodeOf lkeys rkeys k c) (last : ℕ) (hl : last ≡ leftLast c) where
-  coded : Ends lkeys k (leftFirst c) last
-  coded = left-ends lkeys rkeys k c hc (s .stands) (leftFirst c) last refl hl
+  coded : KeyEnds lkeys k (leftFirst c) last
+  coded = left-ends lkeys rkeys k c hc (leftFirst c) last refl hl
 
   pub coded-room : last * p + p ≤ length rows
   coded-room = side-room allowance p rows lkeys k s (leftFirst c) last coded

@@ -9,7 +9,7 @@ use lib.Seq.{length-take-le}
 use Rattle.plan.specs.Keys.{lastOf}
 use Rattle.plan.specs.Merging.{rowAt, RowMerge, row, failedAt, rowOf, mergeLast}
 use Rattle.plan.specs.Laws.Merging.{WideAs, last-wide}
-use Rattle.merging.specs.Laws.{last-within}
+use Rattle.tried_merges.specs.Laws.{last-within}
 use Rattle.answers.proofs.Rows.{row-in}
 use Rattle.pairs.specs.Pairing.{failureOf}
 use Rattle.pair_rows.specs.Rows.{SideMerged, sideRow}
@@ -23,4 +23,4 @@ module _ (allowance p : ℕ) (rows : List ℕ) (g : ℕ) where
 
       settled : (m : RowMerge) → failureOf m ≡ none → WideAs p m → length (rowOf m) ≡ p
       settled (row d) h w = w
-      settled (failedAt i) h w = absurd (let z : _≡_ {A = ℕ} 0 1 = cc in omega arith)
+      settled (failedAt i d) h w = absurd (let z : _≡_ {A = ℕ} 0 1 = cc in omega arith)

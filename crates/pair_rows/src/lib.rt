@@ -7,8 +7,8 @@ ghost use Rattle.model.specs.Lists.{gather};
 ghost use Rattle.model.specs.Reading.{scalarOp};
 ghost use Rattle.model.specs.Row.{zipWith};
 ghost use Rattle.answers.specs.Outcomes.{startingWith};
-ghost use Rattle.merging.specs.Groups.{Ends};
-ghost use Rattle.key_ends.specs.Codes.{CodeOf, PairEnds, leftFirst, leftLast};
+ghost use Rattle.plan.specs.Keys.{KeyEnds};
+ghost use Rattle.end_codes.specs.Codes.{CodeOf, PairEnds, leftFirst, leftLast};
 ghost use Rattle.pairs.specs.Pairing.{sidesOf};
 ghost use Rattle.pair_rows.specs.Rows.{SideMerged, sideRow, pairedRow, Paired, PairedRows};
 
@@ -27,7 +27,7 @@ fn with_merged_right(
     out: &mut [u64],
 )
     requires { ⌜ SideMerged allowance (length (now out)) (now right) (now rkeys) k ⌝ }
-    requires { ⌜ Ends (now rkeys) k first last ⌝ }
+    requires { ⌜ KeyEnds (now rkeys) k first last ⌝ }
     requires { ⌜ first < last ⌝ }
     requires { ⌜ length (now left) ≡ length (now out) ⌝ }
     requires { ⌜ length (now work) ≡ length (now out) ⌝ }
@@ -52,13 +52,13 @@ fn with_right(
     out: &mut [u64],
 )
     requires { ⌜ SideMerged allowance (length (now out)) (now right) (now rkeys) k ⌝ }
-    requires { ⌜ Ends (now rkeys) k first last ⌝ }
+    requires { ⌜ KeyEnds (now rkeys) k first last ⌝ }
     requires { ⌜ length (now left) ≡ length (now out) ⌝ }
     ensures { λ _. ⌜ now (out .exit) ≡ zipWith (scalarOp op bool) (now (left .entry)) (sideRow allowance (length (now (out .entry))) (now (right .entry)) (now (rkeys .entry)) k) ⌝ }
 {
     let p = out.len();
     if last <= first {
-        rows::apply_rows(op, bool, left, timeseries::row(right, p, last), out);
+        rows::apply_rows(op, bool, left, side_parts::row(right, p, last), out);
         return;
     }
     let mut work = [0u64; 1024];
@@ -99,8 +99,8 @@ fn merged_pair_row(
     ensures { λ _. ⌜ now (work .exit) ≡ sideRow allowance (length (now (out .entry))) (now (left .entry)) (now (lkeys .entry)) k ⌝ }
     ensures { λ _. ⌜ now (out .exit) ≡ zipWith (scalarOp op bool) (sideRow allowance (length (now (out .entry))) (now (left .entry)) (now (lkeys .entry)) k) (sideRow allowance (length (now (out .entry))) (now (right .entry)) (now (rkeys .entry)) k) ⌝ }
 {
-    let first = key_ends::left_first(c);
-    let last = key_ends::left_last(c);
+    let first = end_codes::left_first(c);
+    let last = end_codes::left_last(c);
     merging::merge_several(left, lkeys, k, first, last, allowance, work);
     with_right(
         op,
@@ -109,8 +109,8 @@ fn merged_pair_row(
         right,
         rkeys,
         k,
-        key_ends::right_first(c),
-        key_ends::right_last(c),
+        end_codes::right_first(c),
+        end_codes::right_last(c),
         allowance,
         out,
     );
@@ -135,17 +135,17 @@ fn pair_row(
 {
     let p = out.len();
     let k = lkeys[j];
-    let last = key_ends::left_last(c);
-    if last <= key_ends::left_first(c) {
+    let last = end_codes::left_last(c);
+    if last <= end_codes::left_first(c) {
         with_right(
             op,
             bool,
-            timeseries::row(left, p, last),
+            side_parts::row(left, p, last),
             right,
             rkeys,
             k,
-            key_ends::right_first(c),
-            key_ends::right_last(c),
+            end_codes::right_first(c),
+            end_codes::right_last(c),
             allowance,
             out,
         );

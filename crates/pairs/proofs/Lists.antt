@@ -8,9 +8,9 @@ use native.Mathlib.Omega.{arith}
 use lib.ListN.{length, getD, drop, set, drop-of-length-le}
 use lib.Seq.{drop-cons}
 use Rattle.model.specs.Lists.{cases}
-use Rattle.label_edits.specs.Written.{Put}
-use Rattle.label_edits.proofs.Written.{written-none, put-byte-done, Rest, rest-start, rest-put, rest-done}
-use Rattle.key_ends.specs.Codes.{CodeOf, leftLast, left-last}
+use Rattle.writing.specs.Written.{Put}
+use Rattle.writing.proofs.Written.{written-none, put-byte-done, Rest, rest-start, rest-put, rest-done}
+use Rattle.end_codes.specs.Codes.{CodeOf, leftLast, left-last}
 use Rattle.plan.specs.Pairs.{isPair, pairsFrom}
 use Rattle.pairs.specs.Pairing.{pairAt}
 

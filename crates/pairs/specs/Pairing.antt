@@ -28,7 +28,7 @@ pub record PairSides (p : ℕ) (left lkeys right rkeys : List ℕ) : Type 0 wher
 -- the place of the series that failed to merge
 abbrev pub failureOf : RowMerge → Option ℕ
 failureOf (row d) = none
-failureOf (failedAt i) = some i
+failureOf (failedAt i d) = some i
 
 -- the answer row of the left place i, whose key is k, if it gives one: the last left place of its key
 abbrev pub pairAt : List ℕ → List ℕ → ℕ → ℕ → List ℕ

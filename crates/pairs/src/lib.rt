@@ -2,9 +2,9 @@
 ghost use mathlib.Core.Path.{_≡_};
 ghost use Prim.Native.Nat.{_≤_, _<_};
 ghost use lib.ListN.{length, getD};
-ghost use Rattle.label_edits.specs.Written.{Put};
+ghost use Rattle.writing.specs.Written.{Put};
 ghost use Rattle.plan.specs.Pairs.{isPair, pairsFrom};
-ghost use Rattle.key_ends.specs.Codes.{PairEnds};
+ghost use Rattle.end_codes.specs.Codes.{PairEnds};
 ghost use Rattle.pairs.specs.Pairing.{pairAt};
 
 // Whether a left series is the first of a key that stands on both sides.
@@ -16,10 +16,10 @@ pub fn is_pair(lkeys: &[usize], rkeys: &[usize], ends: &[usize], i: usize) -> bo
     if lkeys[i] == key_places::DROPPED {
         return false;
     }
-    if key_ends::left_first(ends[i]) != i {
+    if end_codes::left_first(ends[i]) != i {
         return false;
     }
-    key_ends::right_first(ends[i]) < rkeys.len()
+    end_codes::right_first(ends[i]) < rkeys.len()
 }
 
 // Notes the left place whose labels an answer series has, if place i gives one.
@@ -37,7 +37,7 @@ fn list_pair(
     ensures { λ r. ⌜ Put (now (list .entry)) n (pairAt (now (lkeys .entry)) (now (rkeys .entry)) i (getD (now (lkeys .entry)) i 0)) (now (list .exit)) r ⌝ }
 {
     if is_pair(lkeys, rkeys, ends, i) {
-        list[n] = key_ends::left_last(ends[i]);
+        list[n] = end_codes::left_last(ends[i]);
         return n + 1;
     }
     n

@@ -14,10 +14,10 @@ use Rattle.plan.specs.Keys.{lastOf}
 abbrev pub rowAt : ℕ → List ℕ → ℕ → List ℕ
 rowAt p rows i = take p (drop (i * p) rows)
 
--- what the merges of a group come to: a row, or the place of the series that failed to merge
+-- what the merges of a group come to: a row, or the place of the series that failed to merge, and the row as merged before it
 pub data RowMerge : Type 0 where
   row : List ℕ → RowMerge
-  failedAt : ℕ → RowMerge
+  failedAt : ℕ → List ℕ → RowMerge
 
 abbrev pub onRow : Option (List ℕ) → RowMerge → (List ℕ → RowMerge) → RowMerge
 onRow none refusal f = refusal
@@ -28,7 +28,7 @@ unfoldable pub mergeGroup : ℕ → ℕ → List ℕ → ℕ → ℕ → List �
 mergeGroup allowance p rows g i [] d = row d
 mergeGroup allowance p rows g i (x ∷ groups) d =
     cond (eqb x g)
-    (onRow (merged allowance d (rowAt p rows i)) (failedAt i) (mergeGroup allowance p rows g (suc i) groups))
+    (onRow (merged allowance d (rowAt p rows i)) (failedAt i d) (mergeGroup allowance p rows g (suc i) groups))
     (mergeGroup allowance p rows g (suc i) groups d)
 
 -- 01: each side becomes one series: the last, with the earlier ones merged into it in order
@@ -42,9 +42,9 @@ mergeLead allowance p rows leads o = mergeGroup allowance p rows o (suc o) (drop
 -- the row where the merges succeed
 abbrev pub rowOf : RowMerge → List ℕ
 rowOf (row d) = d
-rowOf (failedAt i) = []
+rowOf (failedAt i d) = []
 
 -- 01: fields are the input places of the series kept and the one that failed to merge
 abbrev pub clash : Side → ℕ → RowMerge → Option Duplicate
 clash side kept (row d) = none
-clash side kept (failedAt i) = some (record { kept = record { side = side; number = kept }; failed = record { side = side; number = i } })
+clash side kept (failedAt i d) = some (record { kept = record { side = side; number = kept }; failed = record { side = side; number = i } })

@@ -1,3 +1,2 @@
-pub mod Walks
 pub mod Lists
 pub mod Takes

@@ -15,13 +15,12 @@ use Rattle.model.specs.Record.{Field, short, field, readField, onField, encodeF
 use Rattle.model.specs.Laws.Record.{read-field, field-read}
 use Rattle.model.specs.Edits.{Names}
 use Rattle.model.specs.Query.{Listed, notListed, listed, withName, namesIn, listIn, onListed}
+use Rattle.model.specs.Laws.Query.{not-listed}
 use Rattle.labels.specs.Names.{namesOf, names-listed}
-use Rattle.query.specs.declared.ListEnd.{ListEnd}
-use Rattle.query.specs.declared.ListEnd.the-variants.{Until, Bad}
-use Rattle.query.specs.Queries.{endOf, lists, noLists, listsIn, matchingPart, ListsWithin, Counts, ListsAt}
-
-not-listed : {X : Type 0} (ns : Names) (rest : List ℕ) → notListed ≡ listed ns rest → X
-not-listed ns rest e = absurd (let z : _≡_ {A = ℕ} 0 1 = cc in omega arith)
+use Rattle.list_ends.specs.declared.ListEnd.{ListEnd}
+use Rattle.list_ends.specs.declared.ListEnd.the-variants.{Until, Bad}
+use Rattle.list_ends.specs.Ends.{endOf}
+use Rattle.query.specs.Queries.{lists, noLists, listsIn, matchingPart, Counts, ListsAt}
 
 -- what is read as ns with `rest` behind it is a front that is read as ns alone
 record Front (read : List ℕ → Listed) (s : List ℕ) (ns : Names) (rest : List ℕ) : Type 0 where

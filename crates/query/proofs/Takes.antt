@@ -12,10 +12,10 @@ use borrow.Author.Tests.{le-leb, lt-leb}
 use Rattle.operator.specs.declared.Operator.{Operator}
 use Rattle.operator.specs.declared.Coded.{Coded}
 use Rattle.operator.specs.declared.Coded.the-variants.{Known, Unknown}
-use Rattle.operator.specs.declared.OperatorRow.{OperatorRow}
+use Rattle.operator_table.specs.declared.OperatorRow.{OperatorRow}
 use Rattle.operator.specs.Operators.{operators, nth, operatorOf, coded, codedOf, isCarried}
-use Rattle.operator.specs.Table as Table
-use Rattle.operator.specs.Table.{table, unlisted, rowOf, Claims, claimed, agrees}
+use Rattle.operator_table.specs.Table as Table
+use Rattle.operator_table.specs.Table.{table, unlisted, rowOf, Claims, claimed, agrees}
 use Rattle.model.specs.Lists.{isEmpty}
 use Rattle.model.specs.Edits.{Names}
 use Rattle.model.specs.Query as Model
@@ -26,9 +26,9 @@ use Rattle.query.specs.declared.Join.{Join}
 use Rattle.query.specs.declared.Query.{Query}
 use Rattle.query.specs.declared.Request.{Request}
 use Rattle.query.specs.declared.Request.the-variants.{Asked, BadOperator, Malformed}
-use Rattle.query.specs.declared.ListEnd.{ListEnd}
-use Rattle.query.specs.declared.ListEnd.the-variants.{Until, Bad}
-use Rattle.query.specs.Queries.{joinOf, queryOf, matchingPart, joinPart, ListsWithin, TakenAs, Lists, noLists, lists, listsIn, listsOf, Counts, ListsAt}
+use Rattle.list_ends.specs.declared.ListEnd.{ListEnd}
+use Rattle.list_ends.specs.declared.ListEnd.the-variants.{Until, Bad}
+use Rattle.query.specs.Queries.{joinOf, queryOf, matchingPart, joinPart, ListsWithin, TakenAs, InRange, Lists, noLists, lists, listsIn, listsOf, Counts, ListsAt}
 
 -- refusals
 
@@ -74,6 +74,10 @@ keep-flag (suc (suc zero)) h = refl
 keep-flag (suc (suc (suc zero))) h = refl
 keep-flag (suc (suc (suc (suc n)))) h = absurd (omega arith)
 
+-- the lists of a query, where the place of the second is known
+pub found-at : (s : List ℕ) (r : ListEnd) → ListsAt s r → (at : ℕ) → r ≡ Until at → ListsAt s (Until at)
+found-at s r found at u = rw u at found
+
 module _ (o : Operator) (s : List ℕ) where
   short-list : (t : List ℕ) → length t < 3 → Model.modified o t ≡ Model.malformed
   short-list [] h = refl
@@ -102,54 +106,63 @@ module _ (o : Operator) (s : List ℕ) where
         pub bad-flags : 3 < getD s 3 0 → TakenAs s (Model.modified o (drop 1 s)) Malformed
         bad-flags h = refused-malformed s _ (tested ∙ rw (le-leb (getD s 1 0) 2 h₁, le-leb (getD s 2 0) 3 h₂, lt-leb (getD s 3 0) 3 h))
 
-        module _ (h₃ : getD s 3 0 ≤ 3) (r : ListEnd) (found : ListsAt s r) where
-          by-parts : Model.modified o (drop 1 s) ≡ ofLists o (getD s 1 0) (getD s 2 0) (getD s 3 0) (listsIn (drop 4 s))
-          by-parts =
-              tested ∙ rw (le-leb (getD s 1 0) 2 h₁, le-leb (getD s 2 0) 3 h₂, le-leb (getD s 3 0) 3 h₃) (by-lists o (getD s 1 0) (getD s 2 0) (getD s 3 0) (drop 4 s))
+  pub in-range : 4 ≤ length s → getD s 1 0 ≤ 2 → getD s 2 0 ≤ 3 → getD s 3 0 ≤ 3 → InRange s
+  in-range long h₁ h₂ h₃ = record { long = long; matching = h₁; join = h₂; flags = h₃ }
 
-          pub no-lists : r ≡ Bad → TakenAs s (Model.modified o (drop 1 s)) Malformed
-          unfolding ofLists
-          no-lists u =
-              let e : noLists ≡ listsIn (drop 4 s) = sym (ap (listsOf s) u) ∙ found .same in
-              refused-malformed s _ (by-parts ∙ rw (← e))
+  module _ (range : InRange s) where
+    by-parts : Model.modified o (drop 1 s) ≡ ofLists o (getD s 1 0) (getD s 2 0) (getD s 3 0) (listsIn (drop 4 s))
+    by-parts =
+        tested (range .long) ∙ rw (le-leb (getD s 1 0) 2 (range .matching), le-leb (getD s 2 0) 3 (range .join), le-leb (getD s 3 0) 3 (range .flags)) (by-lists o (getD s 1 0) (getD s 2 0) (getD s 3 0) (drop 4 s))
 
-          module _ (at : ℕ) (u : r ≡ Until at) (m : Matching) (hm : matchingOf m ≡ Model.matchingOf (getD s 1 0)) (j : Join) (hj : joinOf j ≡ Model.joinOf (getD s 2 0)) where
-            counted : Counts s at
-            counted = found .counts at u
+    pub no-lists : (r : ListEnd) → ListsAt s r → r ≡ Bad → TakenAs s (Model.modified o (drop 1 s)) Malformed
+    unfolding ofLists
+    no-lists r found u =
+        let e : noLists ≡ listsIn (drop 4 s) = sym (ap (listsOf s) u) ∙ found .same in
+        refused-malformed s _ (by-parts ∙ rw (← e))
 
-            ns : Names
-            ns = namesOf (matchingPart s at)
+    module _ (at : ℕ) (found : ListsAt s (Until at)) where
+      counted : Counts s at
+      counted = found .counts at refl
 
-            js : Names
-            js = namesOf (joinPart s at)
+      pub first-count : 4 < length s
+      first-count = let w = counted .within in omega (arith, w .first, w .second)
 
-            at-parts : Model.modified o (drop 1 s) ≡ cond ((Model.isMatched (matchingOf m) || eqb (getD s 4 0) 0) && (Model.isGroup (joinOf j) || eqb (getD s at 0) 0)) (Model.query (asQuery o (getD s 1 0) (getD s 2 0) (getD s 3 0) ns js)) Model.malformed
-            unfolding ofLists asQuery ns js
-            at-parts =
-                by-parts ∙ rw (sym (sym (ap (listsOf s) u) ∙ found .same), counted .matching, counted .join, ← hm, ← hj)
+      pub second-count : at < length s
+      second-count = counted .within .second
 
-            module _ (x : Bool) (hx : x ≡ (Model.isMatched (matchingOf m) || eqb (getD s 4 0) 0)) where
-              pub stray-matching : x ≡ false → TakenAs s (Model.modified o (drop 1 s)) Malformed
-              stray-matching e = refused-malformed s _ (at-parts ∙ rw (← hx, e))
+      ns : Names
+      ns = namesOf (matchingPart s at)
 
-              module _ (e : x ≡ true) (y : Bool) (hy : y ≡ (Model.isGroup (joinOf j) || eqb (getD s at 0) 0)) where
-                pub stray-join : y ≡ false → TakenAs s (Model.modified o (drop 1 s)) Malformed
-                stray-join g = refused-malformed s _ (at-parts ∙ rw (← hx, e, ← hy, g))
+      js : Names
+      js = namesOf (joinPart s at)
 
-                pub asked : y ≡ true → TakenAs s (Model.modified o (drop 1 s)) (Asked (record { operator = o; matching = m; join = j; «keep_names» = eqb (getD s 3 0 % 2) 1; bool = leb 2 (getD s 3 0); «join_at» = at }))
-                unfolding asQuery ns js
-                asked g = record {
-                  answer = rw (at-parts, ← hx, e, ← hy, g, hm, hj, keep-flag (getD s 3 0) h₃);
-                  within = λ q v. within-at (q .«join_at») (let z : at ≡ q .«join_at» = ap joinAt v in z);
-                }
-                  where
-                    joinAt : Request → ℕ
-                    joinAt (Asked q) = q .«join_at»
-                    joinAt BadOperator = 0
-                    joinAt Malformed = 0
+      module _ (m : Matching) (hm : matchingOf m ≡ Model.matchingOf (getD s 1 0)) (j : Join) (hj : joinOf j ≡ Model.joinOf (getD s 2 0)) where
+        at-parts : Model.modified o (drop 1 s) ≡ cond ((Model.isMatched (matchingOf m) || eqb (getD s 4 0) 0) && (Model.isGroup (joinOf j) || eqb (getD s at 0) 0)) (Model.query (asQuery o (getD s 1 0) (getD s 2 0) (getD s 3 0) ns js)) Model.malformed
+        unfolding ofLists asQuery ns js
+        at-parts = by-parts ∙ rw (← found .same, counted .matching, counted .join, ← hm, ← hj)
 
-                    within-at : (k : ℕ) → at ≡ k → ListsWithin s k
-                    within-at k z = rw z at (counted .within)
+        module _ (u : Bool) (hu : u ≡ Model.isMatched (matchingOf m)) (x : Bool) (hx : x ≡ (u || eqb (getD s 4 0) 0)) where
+          pub stray-matching : x ≡ false → TakenAs s (Model.modified o (drop 1 s)) Malformed
+          stray-matching e = refused-malformed s _ (at-parts ∙ rw (← hu, ← hx, e))
+
+          module _ (e : x ≡ true) (v : Bool) (hv : v ≡ Model.isGroup (joinOf j)) (y : Bool) (hy : y ≡ (v || eqb (getD s at 0) 0)) where
+            pub stray-join : y ≡ false → TakenAs s (Model.modified o (drop 1 s)) Malformed
+            stray-join g = refused-malformed s _ (at-parts ∙ rw (← hu, ← hx, e, ← hv, ← hy, g))
+
+            pub asked : y ≡ true → TakenAs s (Model.modified o (drop 1 s)) (Asked (record { operator = o; matching = m; join = j; «keep_names» = eqb (getD s 3 0 % 2) 1; bool = leb 2 (getD s 3 0); «join_at» = at }))
+            unfolding asQuery ns js
+            asked g = record {
+              answer = rw (at-parts, ← hu, ← hx, e, ← hv, ← hy, g, hm, hj, keep-flag (getD s 3 0) (range .flags));
+              within = λ q w. within-at (q .«join_at») (let z : at ≡ q .«join_at» = ap joinAt w in z);
+            }
+              where
+                joinAt : Request → ℕ
+                joinAt (Asked q) = q .«join_at»
+                joinAt BadOperator = 0
+                joinAt Malformed = 0
+
+                within-at : (k : ℕ) → at ≡ k → ListsWithin s k
+                within-at k z = rw z at (counted .within)
 
 -- the operator's byte
 

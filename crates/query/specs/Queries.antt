@@ -1,7 +1,7 @@
 -- The code's query and its answers, as those of the definitions. Assumes nothing.
-use Prim.Native.Nat.{ℕ, _-_, _<_}
+use Prim.Native.Nat.{ℕ, _-_, _<_, _≤_}
 use mathlib.Core.Path.{_≡_}
-use mathlib.Core.Bool.{Bool, cond}
+use mathlib.Core.Bool.{cond}
 use mathlib.Core.List.{List}
 use lib.Dec.{eqb}
 use lib.ListN.{length, getD, take, drop}
@@ -15,8 +15,8 @@ use Rattle.query.specs.declared.Join.the-variants.{OneToOne, GroupLeft, 
 use Rattle.query.specs.declared.Query.{Query}
 use Rattle.query.specs.declared.Request.{Request}
 use Rattle.query.specs.declared.Request.the-variants.{Asked, BadOperator, Malformed}
-use Rattle.query.specs.declared.ListEnd.{ListEnd}
-use Rattle.query.specs.declared.ListEnd.the-variants.{Until, Bad}
+use Rattle.list_ends.specs.declared.ListEnd.{ListEnd}
+use Rattle.list_ends.specs.declared.ListEnd.the-variants.{Until, Bad}
 
 abbrev pub joinOf : Join → Model.Join
 joinOf OneToOne = Model.oneToOne
@@ -68,10 +68,12 @@ pub record TakenAs (s : List ℕ) (t : Model.TakenQuery) (r : Request) : Type 0 
   pub answer : answerOf s r ≡ numbered t
   pub within : (q : Query) → r ≡ Asked q → ListsWithin s (q .«join_at»)
 
--- where a list ends, in so many bytes
-abbrev pub endOf : ℕ → Model.Listed → ListEnd
-endOf n Model.notListed = Bad
-endOf n (Model.listed ns rest) = Until (n - length rest)
+-- the matching, join and flag bytes are among 01's
+pub record InRange (s : List ℕ) : Type 0 where
+  pub long : 4 ≤ length s
+  pub matching : getD s 1 0 ≤ 2
+  pub join : getD s 2 0 ≤ 3
+  pub flags : getD s 3 0 ≤ 3
 
 -- two lists and nothing behind them
 pub data Lists : Type 0 where

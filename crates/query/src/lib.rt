@@ -1,4 +1,8 @@
 // Queries, taken from bytes.
+use labels::Matching;
+use list_ends::ListEnd;
+use operator::Coded;
+use operator::Operator;
 ghost use mathlib.Core.Path.{_≡_};
 ghost use mathlib.Core.Bool.{_||_};
 ghost use Prim.Native.Nat.{_≤_, _<_};
@@ -6,15 +10,10 @@ ghost use lib.Dec.{eqb};
 ghost use lib.ListN.{length, drop};
 ghost use Rattle.model.specs.Query as Model;
 ghost use Rattle.model.specs.Query.{resets};
-ghost use Rattle.operator.specs.Table.{rowOf};
+ghost use Rattle.operator_table.specs.Table.{rowOf};
 ghost use Rattle.labels.specs.Matchings.{matchingOf};
-ghost use Rattle.query.specs.Queries.{joinOf, endOf, ListsAt, TakenAs};
-use labels::Matching;
-use labels::Place;
-use operator::Coded;
-use operator::Operator;
-
-pub const MAX_LISTED: usize = 32;
+ghost use Rattle.query.specs.Queries.{joinOf, InRange, ListsAt, TakenAs};
+ghost use Rattle.list_ends.specs.declared.ListEnd.the-variants as ListEnd;
 
 // The many side of a join is the left one for `GroupLeft`.
 pub enum Join {
@@ -39,56 +38,16 @@ pub enum Request {
     Malformed,
 }
 
-// How far a list goes.
-pub enum ListEnd {
-    Until(usize),
-    Bad,
-}
-
-// The end of n labels that begin at a place.
-fn labels_end(s: &[u8], at: usize, n: usize) -> ListEnd
-    requires { ⌜ at ≤ length (now s) ⌝ }
-    ensures { λ r. ⌜ r ≡ endOf (length (now (s .entry))) (Model.namesIn n (drop at (now (s .entry)))) ⌝ }
-{
-    let mut p = at;
-    let mut left = n;
-    while 0 < left {
-        let Place::At { start, end } = labels::field_at(s, p) else {
-            return ListEnd::Bad;
-        };
-        if start == end {
-            return ListEnd::Bad;
-        }
-        p = end;
-        left -= 1;
-    }
-    ListEnd::Until(p)
-}
-
-// The end of the list at the start of the bytes; what follows it is not looked at.
-pub fn list_end(s: &[u8]) -> ListEnd
-    ensures { λ r. ⌜ r ≡ endOf (length (now (s .entry))) (Model.listIn (now (s .entry))) ⌝ }
-{
-    if s.len() == 0 {
-        return ListEnd::Bad;
-    }
-    let n = s[0] as usize;
-    if MAX_LISTED < n {
-        return ListEnd::Bad;
-    }
-    labels_end(s, 1, n)
-}
-
 // Where the join list stands, if the query's bytes from 4 on are two lists.
 fn join_place(s: &[u8]) -> ListEnd
     requires { ⌜ 4 ≤ length (now s) ⌝ }
     ensures { λ r. ⌜ ListsAt (now (s .entry)) r ⌝ }
 {
-    let ListEnd::Until(n) = list_end(&s[4..]) else {
+    let ListEnd::Until(n) = list_ends::list_end(&s[4..]) else {
         return ListEnd::Bad;
     };
     let at = 4 + n;
-    let ListEnd::Until(m) = list_end(&s[at..]) else {
+    let ListEnd::Until(m) = list_ends::list_end(&s[at..]) else {
         return ListEnd::Bad;
     };
     if at + m == s.len() {
@@ -145,26 +104,12 @@ fn may_stand(used: bool, count: u8) -> bool
     if used { true } else { count == 0 }
 }
 
-// The query behind an operator that is carried.
-fn take_modifier(s: &[u8], operator: Operator) -> Request
-    requires { ⌜ 0 < length (now s) ⌝ }
+// The query whose join list stands at a place, if each list that is not used is empty.
+fn take_lists(s: &[u8], operator: Operator, at: usize) -> Request
+    requires { ⌜ InRange (now s) ⌝ }
+    requires { ⌜ ListsAt (now s) (ListEnd.Until at) ⌝ }
     ensures { λ r. ⌜ TakenAs (now (s .entry)) (Model.modified operator (drop 1 (now (s .entry)))) r ⌝ }
 {
-    if s.len() < 4 {
-        return Request::Malformed;
-    }
-    if 2 < s[1] {
-        return Request::Malformed;
-    }
-    if 3 < s[2] {
-        return Request::Malformed;
-    }
-    if 3 < s[3] {
-        return Request::Malformed;
-    }
-    let ListEnd::Until(at) = join_place(s) else {
-        return Request::Malformed;
-    };
     let matching = matching_of(s[1]);
     let join = join_of(s[2]);
     let flags = s[3];
@@ -186,11 +131,34 @@ fn take_modifier(s: &[u8], operator: Operator) -> Request
     }
 }
 
+// The query behind an operator that is carried.
+fn take_modifier(s: &[u8], operator: Operator) -> Request
+    requires { ⌜ 0 < length (now s) ⌝ }
+    ensures { λ r. ⌜ TakenAs (now (s .entry)) (Model.modified operator (drop 1 (now (s .entry)))) r ⌝ }
+{
+    if s.len() < 4 {
+        return Request::Malformed;
+    }
+    if 2 < s[1] {
+        return Request::Malformed;
+    }
+    if 3 < s[2] {
+        return Request::Malformed;
+    }
+    if 3 < s[3] {
+        return Request::Malformed;
+    }
+    match join_place(s) {
+        ListEnd::Until(at) => take_lists(s, operator, at),
+        ListEnd::Bad => Request::Malformed,
+    }
+}
+
 // Whether calls run the operator of a byte, by the operator table.
 fn is_carried(b: u8) -> bool
     ensures { λ r. ⌜ r ≡ rowOf b .carried ⌝ }
 {
-    let row = operator::operator_row(b);
+    let row = operator_table::operator_row(b);
     row.carried
 }
 

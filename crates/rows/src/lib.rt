@@ -28,7 +28,7 @@ pub fn apply_rows(op: Operator, bool: bool, left: &[u64], right: &[u64], out: &m
     match op {
         Operator::Add => arithmetic_rows::plus_rows(left, right, out),
         Operator::Div => arithmetic_rows::div_rows(left, right, out),
-        Operator::Eql => comparison_rows::eq_rows(left, right, bool, out),
+        Operator::Eql => equality_rows::eq_rows(left, right, bool, out),
         Operator::Mod => arithmetic_rows::mod_rows(left, right, out),
         Operator::Mul => arithmetic_rows::mul_rows(left, right, out),
         Operator::Sub => arithmetic_rows::minus_rows(left, right, out),
@@ -36,7 +36,7 @@ pub fn apply_rows(op: Operator, bool: bool, left: &[u64], right: &[u64], out: &m
         Operator::Gte => comparison_rows::gte_rows(left, right, bool, out),
         Operator::Lt => comparison_rows::lt_rows(left, right, bool, out),
         Operator::Lte => comparison_rows::lte_rows(left, right, bool, out),
-        Operator::NotEq => comparison_rows::neq_rows(left, right, bool, out),
+        Operator::NotEq => equality_rows::neq_rows(left, right, bool, out),
         _ => no_rows(left, right, out),
     }
 }

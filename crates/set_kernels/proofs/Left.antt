@@ -10,7 +10,8 @@ use Rattle.model.specs.Limits.{maxSeries}
 use Rattle.model.specs.Lists.{isEmpty}
 use Rattle.model.specs.Row.{onlyMissing, zipWith}
 use Rattle.plan.specs.Sets.{metPlaces, setRow, needsMatch, dropsEmpty, leftRow, leftAnswers}
-use Rattle.noting.specs.Places.{NotedAll, KeyEnds, Within, RightSide}
+use Rattle.plan.specs.Keys.{KeyEnds}
+use Rattle.noting.specs.Places.{NotedAll, Within, RightSide}
 use Rattle.noting.proofs.Noting.{noted-front, noted-length}
 use Rattle.noting.proofs.Meeting.{met-one, met-few, met-within}
 use Rattle.set_points.specs.Points.{onReading}

@@ -3,7 +3,8 @@ use set_points::SetRule;
 ghost use mathlib.Core.Path.{_≡_};
 ghost use lib.ListN.{length};
 ghost use Rattle.plan.specs.Sets.{metPlaces, needsMatch, dropsEmpty, leftRow, leftAnswers};
-ghost use Rattle.noting.specs.Places.{KeyEnds, Within, RightSide};
+ghost use Rattle.plan.specs.Keys.{KeyEnds};
+ghost use Rattle.noting.specs.Places.{Within, RightSide};
 ghost use Rattle.set_points.specs.Points.{meant};
 
 // Whether a rule drops a left series that meets no right one.

@@ -1,5 +1,5 @@
 -- A set rule point by point: on the reading that the search gives, over one right row, and the loops that write a row or look for a reading in it. Assumes nothing.
-use Prim.Native.Nat.{ℕ, zero, suc, _+_, _*_, _≤_, _<_}
+use Prim.Native.Nat.{ℕ, suc, _+_, _*_, _≤_, _<_}
 use mathlib.Core.Path.{_≡_, refl, sym, ap, _∙_}
 use mathlib.Core.Bool.{Bool, true, false, not, cond}
 use mathlib.Core.Option.{Option, none, some}
@@ -19,7 +19,6 @@ use Rattle.plan.specs.Merging.{rowAt}
 use Rattle.plan.specs.Sets.{firstAt, setPoint, setRow}
 use Rattle.binaryop.specs.Leaves.{whereReading, whereMissing, filledFrom}
 use Rattle.set_points.specs.Points.{readingOf, onReading}
-use Rattle.noting.specs.Places.{Within}
 use Rattle.set_points.proofs.Searching.{any-default}
 
 -- the rule on what the search gives

@@ -11,10 +11,10 @@ use Rattle.model.specs.Limits.{maxLabelBytes}
 use Rattle.model.specs.Labels.{Tag}
 use Rattle.model.specs.Record.{encodeTags}
 use Rattle.model.specs.Edits.{Names}
-use Rattle.metric_name.specs.Cursors.{encodeTag, encode-tag}
-use Rattle.label_edits.specs.Edited.{TagsSized}
-use Rattle.label_edits.specs.Written.{Put}
-use Rattle.label_edits.proofs.Written.{Rest, rest-start, rest-room, rest-put, rest-done}
+use Rattle.record_tags.specs.Cursors.{encodeTag, encode-tag}
+use Rattle.kept_labels.specs.Edited.{TagsSized}
+use Rattle.writing.specs.Written.{Put}
+use Rattle.writing.proofs.Written.{Rest, rest-start, rest-room, rest-put, rest-done}
 use Rattle.edited_tags.specs.Streams.{editedTags, tagsLeft, WalkOf, EditedAt}
 use Rattle.edited_tags.specs.declared.Walk.{Walk}
 use Rattle.edited_tags.specs.declared.Edited.{Edited}

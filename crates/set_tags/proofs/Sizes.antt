@@ -1,41 +1,26 @@
 -- An edited record is no longer than the two that it is made of, and its parts can be counted. Assumes nothing.
 use Prim.Native.Nat.{ℕ, _+_, _*_, _≤_, _<_}
-use mathlib.Core.Path.{_≡_, refl, sym, ap, _∙_}
-use mathlib.Core.Bool.{Bool, true, false, cond}
+use mathlib.Core.Path.{_≡_, refl, ap, _∙_}
 use mathlib.Core.List.{List, [], _∷_, _++_}
 use native.Mathlib.Omega.{arith}
 use mir.Syntax.{w8, w64}
 use mir.Val.{Fits}
-use lib.ListN.{length, getD, length-append}
-use Rattle.model.specs.Limits.{maxTags, maxLabelBytes}
+use lib.ListN.{length}
+use Rattle.model.specs.Limits.{maxTags}
 use Rattle.model.specs.Lists.{cases}
-use Rattle.model.specs.Labels.{Tag, Labels, below}
-use Rattle.model.specs.Laws.Record.{field-read}
-use Rattle.model.specs.Record.{Field, short, field, readField, onField, encodeField, encodeTags, encode}
+use Rattle.model.specs.Labels.{Tag, below}
+use Rattle.model.specs.Record.{encodeField, encodeTags}
 use Rattle.model.specs.Edits.{Names}
-use Rattle.model.specs.Laws.SetTags.{isSet, stays, stayingTags, setFrom, mergeTags, merge-nil, merge-left, merge-right}
-use Rattle.metric_name.specs.Lenient.{tagsUpTo, tagsCounted, labelsOf}
-use Rattle.metric_name.specs.Cursors.{encodeTag, encode-tag}
-use Rattle.label_edits.specs.Edited.{TagsSized, Sized}
-use Rattle.label_edits.specs.declared.Size.{Size}
-use Rattle.label_edits.proofs.Sizes.{length-labels, chosen-short, tags-short}
+use Rattle.model.specs.Laws.SetTags.{isSet, stays, stayingTags, setFrom, mergeTags, merge-nil, merge-left, merge-right, nil-merge}
+use Rattle.record_tags.specs.Lenient.{labelsOf}
+use Rattle.kept_labels.specs.Edited.{Sized}
+use Rattle.kept_labels.proofs.Sizes.{no-bytes, length-tags, length-labels, chosen-short, labels-short}
 use Rattle.tag_streams.specs.Sieves.{set-sieve, staying-sieve}
 use Rattle.edited_tags.specs.Streams.{editedTags}
 use Rattle.naming.specs.Namings.{nameOf}
 use Rattle.set_tags.specs.Records.{ShortRecords, edited}
 use Rattle.naming.specs.declared.Naming.{Naming}
 use Rattle.naming.specs.declared.Naming.the-variants.{Nobody, Many, Source}
-
-no-bytes : length (encodeTags []) ≡ 0
-unfolding encodeTags
-no-bytes = refl
-
-length-tags : (t : Tag) (ts : List Tag) → length (encodeTags (t ∷ ts)) ≡ length (encodeTag t) + length (encodeTags ts)
-length-tags t ts = ap length (encode-tag t ts) ∙ length-append (encodeTag t) (encodeTags ts)
-
-nil-merge : (ys : List Tag) → mergeTags [] ys ≡ ys
-unfolding mergeTags
-nil-merge ys = refl
 
 -- merging loses no byte
 merge-bytes : (xs ys : List Tag) → length (encodeTags (mergeTags xs ys)) ≡ length (encodeTags xs) + length (encodeTags ys)
@@ -50,18 +35,9 @@ merge-bytes (x ∷ xs) ys = go ys (merge-bytes xs)
         (λ e. ap (λ l. length (encodeTags l)) (merge-left x xs y ys e) ∙ (omega (arith, length-tags x (mergeTags xs (y ∷ ys)), ih (y ∷ ys), length-tags x xs)))
         (λ e. ap (λ l. length (encodeTags l)) (merge-right x xs y ys e) ∙ (omega (arith, length-tags y (mergeTags (x ∷ xs) ys), go ys ih, length-tags y ys)))
 
--- a record's tags are no longer than the record
-labels-short : (s : List ℕ) → length (encodeTags (labelsOf s .tags)) ≤ length s
-unfolding labelsOf
-labels-short s = go (readField s) refl
-  where
-    counted : (x s₁ : List ℕ) → length s₁ ≤ length s → length (encodeTags (tagsCounted s₁)) ≤ length s
-    counted x [] h = omega (arith, no-bytes)
-    counted x (n ∷ s₁) h = omega (arith, tags-short n s₁)
-
-    go : (g : Field) → readField s ≡ g → length (encodeTags (onField {A = Labels} g (record { name = []; tags = [] }) (λ x rest. record { name = x; tags = tagsCounted rest }) .tags)) ≤ length s
-    go short h = omega (arith, no-bytes)
-    go (field x s₁) h = counted x s₁ (omega (arith, ap length (field-read s x s₁ h), length-append (encodeField x) s₁))
+-- a record's name and tags are no longer than the record
+parts-short : (s : List ℕ) → length (labelsOf s .name) + length (encodeTags (labelsOf s .tags)) ≤ length s
+parts-short s = omega (arith, labels-short s, length-labels (labelsOf s))
 
 pub edited-short : (join skip : Names) (many source : List ℕ) → length (encodeTags (editedTags join skip many source)) ≤ length many + length source
 edited-short join skip many source =
@@ -70,23 +46,14 @@ edited-short join skip many source =
       merge-bytes (stayingTags join skip (labelsOf source .tags) (labelsOf many .tags)) (setFrom join skip (labelsOf source .tags)),
       chosen-short (stays join skip (labelsOf source .tags)) (stayingTags join skip (labelsOf source .tags)) (staying-sieve join skip (labelsOf source .tags)) (labelsOf many .tags),
       chosen-short (isSet join skip) (setFrom join skip) (set-sieve join skip) (labelsOf source .tags),
-      labels-short many,
-      labels-short source,
+      parts-short many,
+      parts-short source,
     )
-
--- nor is its name
-name-short : (s : List ℕ) → length (labelsOf s .name) ≤ length s
-unfolding labelsOf
-name-short s = go (readField s) refl
-  where
-    go : (g : Field) → readField s ≡ g → length (onField {A = Labels} g (record { name = []; tags = [] }) (λ x rest. record { name = x; tags = tagsCounted rest }) .name) ≤ length s
-    go short h = omega arith
-    go (field x s₁) h = omega (arith, ap length (field-read s x s₁ h), length-append (encodeField x) s₁)
 
 naming-short : (naming : Naming) (many source : List ℕ) → length (nameOf naming many source) ≤ length many + length source
 naming-short Nobody many source = omega arith
-naming-short Many many source = omega (arith, name-short many)
-naming-short Source many source = omega (arith, name-short source)
+naming-short Many many source = omega (arith, parts-short many)
+naming-short Source many source = omega (arith, parts-short source)
 
 -- `set_tags_size`
 module _ (naming : Naming) (many source : List ℕ) (short : ShortRecords many source) (n : ℕ) (hn : n ≡ length (encodeField (nameOf naming many source))) where

@@ -9,7 +9,7 @@ use Rattle.model.specs.Labels.{Labels, nameLabel, WellFormed}
 use Rattle.model.specs.Edits.{Names, isListed, clearNameIf, setTags}
 use Rattle.model.specs.Laws.Edits.{clear-well}
 use Rattle.model.specs.Laws.SetTags.{stayingTags, setFrom, mergeTags, set-tags-merge, set-tags-name}
-use Rattle.metric_name.specs.Lenient.{labelsOf}
+use Rattle.record_tags.specs.Lenient.{labelsOf}
 use Rattle.naming.specs.declared.Naming.{Naming}
 use Rattle.naming.specs.declared.Naming.the-variants.{Nobody, Many, Source}
 use Rattle.naming.specs.Namings.{namingOf, nameOf}

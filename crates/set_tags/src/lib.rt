@@ -1,6 +1,6 @@
 // A join's edited record: the many side's labels, with the join labels set from a one-side series, the source; measured, and written at its place.
 use edited_tags::Edited;
-use label_edits::Size;
+use kept_labels::Size;
 use naming::Naming;
 ghost use mathlib.Core.Path.{_≡_};
 ghost use Prim.Native.Nat.{_+_, _≤_};
@@ -8,8 +8,8 @@ ghost use lib.ListN.{length};
 ghost use Rattle.model.specs.Limits.{maxTags};
 ghost use Rattle.model.specs.Record.{encodeTags, encode};
 ghost use Rattle.labels.specs.Names.{namesOf};
-ghost use Rattle.label_edits.specs.Written.{Put};
-ghost use Rattle.label_edits.specs.Edited.{TagsSized, Sized};
+ghost use Rattle.writing.specs.Written.{Put};
+ghost use Rattle.kept_labels.specs.Edited.{TagsSized, Sized};
 ghost use Rattle.edited_tags.specs.Streams.{editedTags};
 ghost use Rattle.set_tags.specs.Records.{ShortRecords, edited};
 
@@ -61,7 +61,7 @@ pub fn put_edited<'a>(
         else {
             return o;
         };
-        o = label_edits::put_bytes(
+        o = writing::put_bytes(
             out,
             o,
             edited_tags::tag_bytes(many, source, sourced, start, end),
@@ -101,6 +101,6 @@ pub fn set_tags<'a>(
     let s = edited_size(many, source, join, skip);
     let n = s.tags;
     let q = naming::put_naming(out, at, many, source, naming);
-    let o = label_edits::put_byte(out, q, n as u8);
+    let o = writing::put_byte(out, q, n as u8);
     put_edited(out, o, many, source, join, skip)
 }

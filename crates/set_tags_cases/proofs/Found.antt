@@ -5,10 +5,10 @@ use mathlib.Core.List.{List}
 use native.Mathlib.Omega.{arith}
 use lib.ListN.{length, drop}
 use Rattle.model.specs.Record.{decode}
-use Rattle.metric_name.specs.Records.{recordOf}
-use Rattle.metric_name.specs.Lenient.{record-found}
-use Rattle.metric_name.specs.declared.Record.{Record}
-use Rattle.metric_name.specs.declared.Record.the-variants.{Ok}
+use Rattle.label_records.specs.Records.{recordOf}
+use Rattle.record_tags.specs.Lenient.{record-found}
+use Rattle.label_records.specs.declared.Record.{Record}
+use Rattle.label_records.specs.declared.Record.the-variants.{Ok}
 
 module _ (s : List ℕ) (at next : ℕ) (x : Record) (read : x ≡ recordOf (length s) (decode (drop at s))) (e : x ≡ Ok next) where
   pub found-order : at ≤ next

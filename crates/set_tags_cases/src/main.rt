@@ -2,56 +2,27 @@
 // tags, a hash of the tags, how many tags and bytes are measured, and the edited record, where it has no more than 32 tags.
 // A case is a part: a byte that is 1 where the name is reset, the join list and the skip list, each a part, and the three records. A part is
 // two bytes of length, the low byte first, and that many bytes.
+use case_parts::part_at;
+use case_text::print;
+use case_text::print_bool;
+use case_text::print_front;
+use case_text::print_size;
+use label_records::Record;
 use libc::STDIN_FILENO;
 use libc::STDOUT_FILENO;
-use metric_name::Record;
 use naming::Naming;
 use operator::Operator;
-ghost use Prim.Native.Nat.{_≤_, _<_};
+ghost use Prim.Native.Nat.{_≤_};
 ghost use lib.ListN.{length};
 ghost use Rattle.model.specs.Limits.{maxLabelBytes};
 ghost use Rattle.set_tags.specs.Records.{ShortRecords};
-
-fn print(text: &[u8]) {
-    io::write_all(STDOUT_FILENO, text);
-}
-
-fn print_number(n: usize) {
-    io::print_decimal(STDOUT_FILENO, n as u64);
-    print(b" ");
-}
-
-fn print_bool(b: bool) {
-    if b { print(b"yes ") } else { print(b"no ") }
-}
-
-fn print_byte(b: u8) {
-    io::print_hex(STDOUT_FILENO, b as u64, 2);
-}
-
-fn print_bytes(s: &[u8]) {
-    let mut i = 0;
-    while i < s.len() {
-        print_byte(s[i]);
-        i += 1;
-    }
-}
-
-// The bytes before a place, and the one at it.
-fn print_front(s: &[u8], n: usize) {
-    if n < s.len() {
-        print_bytes(&s[..n]);
-        print_byte(s[n]);
-    }
-}
 
 // The edited record: tags, bytes, and what stands in a buffer of 187s with the record at place 2, up to the byte behind it.
 fn edit<'a>(many: &'a [u8], source: &'a [u8], join: &[u8], skip: &[u8], naming: Naming)
     requires { ⌜ ShortRecords (now many) (now source) ⌝ }
 {
     let z = set_tags::set_tags_size(many, source, join, skip, naming);
-    print_number(z.tags);
-    print_number(z.bytes);
+    print_size(z.tags, z.bytes);
     let mut out = [187u8; 20000];
     if z.tags <= Operator::MAX_TAGS {
         if z.bytes <= 19000 {
@@ -72,36 +43,11 @@ fn compare<'a>(many: &'a [u8], source: &'a [u8], other: &'a [u8], join: &[u8], s
     print(b" ");
 }
 
-fn wide(b: u8) -> usize
-    ensures { λ r. ⌜ r < 256 ⌝ }
-{
-    b as usize
-}
-
-// The part at a place; nothing where it is cut.
-fn part_at<'a>(s: &'a [u8], at: usize) -> &'a [u8]
-    ensures { λ r. ⌜ length (now r) ≤ maxLabelBytes ⌝ }
-{
-    if s.len() < 2 {
-        return &s[..0];
-    }
-    if s.len() - 2 < at {
-        return &s[..0];
-    }
-    let start = at + 2;
-    let n = wide(s[at]) + 256 * wide(s[at + 1]);
-    if s.len() - start < n {
-        return &s[..0];
-    }
-    let end = start + n;
-    &s[start..end]
-}
-
 // The record at a place; nothing where it is refused.
 fn record_at<'a>(s: &'a [u8], at: usize) -> &'a [u8]
     ensures { λ r. ⌜ length (now r) ≤ length (now (s .entry)) ⌝ }
 {
-    match metric_name::read_record(s, at) {
+    match label_records::read_record(s, at) {
         Record::Ok { next } => &s[at..next],
         Record::Cut => &s[..0],
         Record::BadKey => &s[..0],

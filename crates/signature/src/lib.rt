@@ -1,69 +1,24 @@
-// The key of a record under a matching: walked, compared and hashed.
+// The matching keys of records: compared in full, and hashed.
 use labels::Matching;
-use metric_name::Next;
+use record_tags::Next;
 ghost use mathlib.Core.Path.{_≡_};
 ghost use Rattle.model.specs.Labels.{sameTags};
-ghost use Rattle.model.specs.Query.{keyOf};
-ghost use Rattle.labels.specs.Names.{namesOf};
 ghost use Rattle.labels.specs.Matchings.{matchingOf};
-ghost use Rattle.metric_name.specs.Cursors.{NextAt};
-ghost use Rattle.signature.specs.Keys.{isChosen, recordKey, hashByte, hashBytes, hashOf};
-
-// Whether a matching puts the tags of a label into the key.
-pub fn is_chosen(matching: Matching, list: &[u8], label: &[u8]) -> bool
-    ensures { λ r. ⌜ r ≡ isChosen (matchingOf matching) (namesOf (now (list .entry))) (now (label .entry)) ⌝ }
-{
-    match matching {
-        Matching::All => true,
-        Matching::On => labels::in_list(list, label),
-        Matching::Ignoring => !labels::in_list(list, label),
-    }
-}
-
-// The first of the n tags at a place that is in the key.
-pub fn next_chosen(s: &[u8], at: usize, n: usize, matching: Matching, list: &[u8]) -> Next
-    ensures { λ r. ⌜ NextAt (keyOf (matchingOf matching) (namesOf (now (list .entry)))) (now (s .entry)) n at r ⌝ }
-{
-    let mut p = at;
-    let mut m = n;
-    loop {
-        let Next::Tag {
-            start,
-            key,
-            key_end,
-            end,
-            left,
-        } = metric_name::next_tag(s, p, m)
-        else {
-            return Next::End;
-        };
-        if is_chosen(matching, list, &s[key..key_end]) {
-            return Next::Tag {
-                start,
-                key,
-                key_end,
-                end,
-                left,
-            };
-        }
-        p = end;
-        m = left;
-    }
-}
+ghost use Rattle.chosen_tags.specs.Keys.{recordKey, hashByte, hashBytes, hashOf};
 
 // Whether two records have the same key.
 pub fn same_key(a: &[u8], b: &[u8], matching: Matching, list: &[u8]) -> bool
     ensures { λ r. ⌜ r ≡ sameTags (recordKey (matchingOf matching) (now (list .entry)) (now (a .entry))) (recordKey (matchingOf matching) (now (list .entry)) (now (b .entry))) ⌝ }
 {
-    let h = metric_name::tags_of(a);
-    let k = metric_name::tags_of(b);
+    let h = record_tags::tags_of(a);
+    let k = record_tags::tags_of(b);
     let mut p = h.at;
     let mut m = h.count;
     let mut q = k.at;
     let mut n = k.count;
     loop {
-        let x = next_chosen(a, p, m, matching, list);
-        let y = next_chosen(b, q, n, matching, list);
+        let x = chosen_tags::next_chosen(a, p, m, matching, list);
+        let y = chosen_tags::next_chosen(b, q, n, matching, list);
         match x {
             Next::Tag {
                 start,
@@ -79,7 +34,7 @@ pub fn same_key(a: &[u8], b: &[u8], matching: Matching, list: &[u8]) -> bool
                     end: stop,
                     left: rest,
                 } => {
-                    if labels::same_bytes(&a[start..end], &b[begin..stop]) {
+                    if fields::same_bytes(&a[start..end], &b[begin..stop]) {
                         p = end;
                         m = left;
                         q = stop;
@@ -127,7 +82,7 @@ pub fn hash_bytes(h: u64, s: &[u8]) -> u64
 pub fn hash_key(rec: &[u8], matching: Matching, list: &[u8]) -> u64
     ensures { λ r. ⌜ r ≡ hashOf (recordKey (matchingOf matching) (now (list .entry)) (now (rec .entry))) ⌝ }
 {
-    let t = metric_name::tags_of(rec);
+    let t = record_tags::tags_of(rec);
     let mut x: u64 = 0;
     let mut p = t.at;
     let mut n = t.count;
@@ -138,7 +93,7 @@ pub fn hash_key(rec: &[u8], matching: Matching, list: &[u8]) -> u64
             key_end: _,
             end,
             left,
-        } = next_chosen(rec, p, n, matching, list)
+        } = chosen_tags::next_chosen(rec, p, n, matching, list)
         else {
             return x;
         };

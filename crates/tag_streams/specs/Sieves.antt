@@ -4,7 +4,7 @@ use mathlib.Core.List.{List}
 use Rattle.model.specs.Labels.{Tag}
 use Rattle.model.specs.Edits.{Names}
 use Rattle.model.specs.Laws.SetTags.{isSet, stays, stayingTags, setFrom}
-use Rattle.metric_name.specs.Cursors.{Sieve}
+use Rattle.record_tags.specs.Cursors.{Sieve}
 
 pub set-sieve : (join skip : Names) → Sieve (isSet join skip) (setFrom join skip)
 set-sieve join skip = record { none = refl; one = λ t ts. refl }

@@ -2,9 +2,9 @@
 ghost use mathlib.Core.Path.{_≡_};
 ghost use Rattle.model.specs.Laws.SetTags.{isSet, stays, stayingTags, setFrom};
 ghost use Rattle.labels.specs.Names.{namesOf};
-ghost use Rattle.metric_name.specs.Lenient.{labelsOf};
-ghost use Rattle.metric_name.specs.Cursors.{NextAt};
-use metric_name::Next;
+ghost use Rattle.record_tags.specs.Lenient.{labelsOf};
+ghost use Rattle.record_tags.specs.Cursors.{NextAt};
+use record_tags::Next;
 
 // Whether the tags of a label are set from the source.
 pub fn is_set(join: &[u8], skip: &[u8], label: &[u8]) -> bool
@@ -54,7 +54,7 @@ pub fn next_staying(
             key_end,
             end,
             left,
-        } = metric_name::next_tag(many, p, m)
+        } = record_tags::next_tag(many, p, m)
         else {
             return Next::End;
         };
@@ -85,7 +85,7 @@ pub fn next_set(source: &[u8], at: usize, n: usize, join: &[u8], skip: &[u8]) ->
             key_end,
             end,
             left,
-        } = metric_name::next_tag(source, p, m)
+        } = record_tags::next_tag(source, p, m)
         else {
             return Next::End;
         };

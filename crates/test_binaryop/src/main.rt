@@ -3,13 +3,11 @@
 ghost use mathlib.Core.Path.{_≡_};
 ghost use Prim.Native.Nat.{_+_, _*_, _≤_};
 ghost use lib.ListN.{length};
+use case_parts::number_at;
+use case_text::print;
 use merge::Merged;
 use operator::Coded;
 use operator::Operator;
-
-fn wide(b: u8) -> u64 {
-    b as u64
-}
 
 fn size(b: u8) -> usize
     ensures { λ r. ⌜ r ≤ 255 ⌝ }
@@ -17,22 +15,14 @@ fn size(b: u8) -> usize
     b as usize
 }
 
-fn pushed(x: u64, b: u8) -> u64 {
-    (x << 8) | wide(b)
-}
-
 // The reading at a place, little-endian.
 fn word(s: &[u8], at: usize) -> u64
     requires { ⌜ at + 8 ≤ length (now s) ⌝ }
 {
-    let high = pushed(
-        pushed(pushed(wide(s[at + 7]), s[at + 6]), s[at + 5]),
-        s[at + 4],
-    );
-    pushed(
-        pushed(pushed(pushed(high, s[at + 3]), s[at + 2]), s[at + 1]),
-        s[at],
-    )
+    let low = number_at(s, at) + 65536 * number_at(s, at + 2);
+    let high = number_at(s, at + 4) + 65536 * number_at(s, at + 6);
+    let bits = low + 4294967296 * high;
+    bits as u64
 }
 
 // A row that begins with n readings.
@@ -51,30 +41,30 @@ fn load(s: &[u8], n: usize) -> [u64; 1024]
 }
 
 fn print_reading(x: u64) {
-    io::write_all(1, b" ");
+    print(b" ");
     io::print_hex(1, x, 16);
 }
 
 fn print_row(name: &[u8], row: &[u64]) {
-    io::write_all(1, name);
+    print(name);
     let mut i: usize = 0;
     while i < row.len() {
         print_reading(row[i]);
         i += 1;
     }
-    io::write_all(1, b"\n");
+    print(b"\n");
 }
 
 fn print_points(op: Operator, bool: bool, left: &[u64], right: &[u64])
     requires { ⌜ length (now left) ≡ length (now right) ⌝ }
 {
-    io::write_all(1, b"points");
+    print(b"points");
     let mut i: usize = 0;
     while i < left.len() {
         print_reading(binaryop::eval_binary_op(left[i], right[i], op, bool));
         i += 1;
     }
-    io::write_all(1, b"\n");
+    print(b"\n");
 }
 
 // The operator point by point, and on the rows.
@@ -113,9 +103,9 @@ fn run_rows(what: u8, op: u8, bool: bool, left: &[u64], right: &[u64], out: &mut
 
 fn run_only(row: &[u64]) {
     if rows::only_missing(row) {
-        io::write_all(1, b"only missing\n");
+        print(b"only missing\n");
     } else {
-        io::write_all(1, b"a reading\n");
+        print(b"a reading\n");
     }
 }
 
@@ -152,8 +142,8 @@ fn run_case(s: &[u8]) -> usize
     if s.len() < 8 {
         return 0;
     }
-    let n = size(s[4]) + size(s[5]) * 256;
-    let m = size(s[6]) + size(s[7]) * 256;
+    let n = number_at(s, 4);
+    let m = number_at(s, 6);
     if 1024 < n {
         return 0;
     }

@@ -1,4 +1,2 @@
-pub mod Sides
-pub mod SideLaws
 pub mod Takes
 pub mod TakeLaws

@@ -1,16 +1,14 @@
 -- What taking a vector answers, with 01's numbers and places, and the positions that it notes. Assumes nothing.
-use Prim.Native.Nat.{ℕ, zero, suc, _-_}
+use Prim.Native.Nat.{ℕ}
 use mathlib.Core.Path.{_≡_}
 use mathlib.Core.Bool.{Bool, _&&_, cond}
-use mathlib.Core.List.{List, [], _∷_}
+use mathlib.Core.List.{List, []}
 use lib.Dec.{leb, eqb}
 use lib.ListN.{length, drop}
 use lib.Seq.{sets}
 use Rattle.model.specs.Limits.{maxSeries, maxPoints}
-use Rattle.model.specs.Record.{Decoded, decoded, cut, badKey, decode}
-use Rattle.model.specs.Vector.{TakenVector, vector, faulty, Records, records, badRecord, recordsIn, twoBytesAt, takeVector}
-use Rattle.timeseries.specs.declared.Walked.{Walked}
-use Rattle.timeseries.specs.declared.Walked.the-variants as W
+use Rattle.model.specs.Vector.{TakenVector, vector, faulty, twoBytesAt, takeVector}
+use Rattle.record_walk.specs.Walks.{noted}
 use Rattle.timeseries.specs.declared.Taken.{Taken}
 use Rattle.timeseries.specs.declared.Taken.the-variants as T
 
@@ -33,22 +31,6 @@ takenPlace (T.Cut i) = i
 takenPlace (T.BadKey i) = i
 takenPlace T.Readings = 0
 
-abbrev pub walkedOf : Records → Walked
-walkedOf (records ls) = W.Whole
-walkedOf (badRecord k i) = cond (eqb k 3) (W.Cut i) (W.BadKey i)
-
--- positions, noted while records are walked
-
-abbrev pub onRest : Decoded → (List ℕ → List ℕ) → List ℕ
-onRest (decoded l rest) f = f rest
-onRest cut f = []
-onRest badKey f = []
-
--- where n records start and the last ends, in an array of `size` bytes that ends with s; the start of a faulty record is the last
-unfoldable pub noted : ℕ → ℕ → List ℕ → List ℕ
-noted size zero s = (size - length s) ∷ []
-noted size (suc n) s = (size - length s) ∷ onRest (decode s) (noted size n)
-
 -- 01: sizes cut or above a limit, a label array not of its stated length
 abbrev pub goodSizes : List ℕ → Bool
 goodSizes s =
@@ -57,10 +39,6 @@ goodSizes s =
 -- the positions that taking a label part notes; none where its sizes are bad
 abbrev pub notedIn : List ℕ → List ℕ
 notedIn s = cond (goodSizes s) (noted (length (drop 6 s)) (twoBytesAt s 0) (drop 6 s)) []
-
-pub record WalkedInto (n : ℕ) (array before : List ℕ) (r : Walked) (after : List ℕ) : Type 0 where
-  pub answer : r ≡ walkedOf (recordsIn n 0 array)
-  pub positions : after ≡ sets before 0 (noted (length array) n array)
 
 pub record TakenInto (labels readings before : List ℕ) (r : Taken) (after : List ℕ) : Type 0 where
   pub answer : r ≡ takenOf (takeVector 0 labels readings)

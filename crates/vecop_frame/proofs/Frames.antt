@@ -1,15 +1,14 @@
 -- A part found at a place, and three of them. Assumes nothing.
-use Prim.Native.Nat.{ℕ, suc, _+_, _-_, _≤_, _<_}
+use Prim.Native.Nat.{ℕ, _+_, _-_, _≤_, _<_}
 use mathlib.Core.Path.{_≡_, refl, sym, _∙_}
 use mathlib.Core.List.{List, [], _∷_}
 use native.Mathlib.Omega.{arith}
-use lib.ListN.{length, getD, take, drop, length-drop, drop-of-length-le}
+use lib.ListN.{length, take, drop, length-drop, drop-of-length-le}
 use lib.Seq.{drop-cons, drop-drop, take-all}
-use lib.Dec.{leb}
 use borrow.Author.Tests.{le-leb, lt-leb}
-use Rattle.labels.specs.declared.Place.{Place}
-use Rattle.labels.specs.declared.Place.the-variants.{At, Short}
-use Rattle.vecop_frame.specs.Frames.{Part, part, cutPart, fourBytesAt, readPart, three, unreadable, onPart, ending, framed, maxInput}
+use Rattle.fields.specs.declared.Place.{Place}
+use Rattle.fields.specs.declared.Place.the-variants.{At, Short}
+use Rattle.vecop_frame.specs.Frames.{part, cutPart, fourBytesAt, readPart, ending, framed, maxInput}
 use Rattle.vecop_frame.specs.Found.{Read, PartFound, PartsFound}
 use Rattle.vecop_frame.specs.declared.Parts.the-variants.{Three, Unreadable}
 use Rattle.vecop_frame.proofs.Numbers.{four-here}

@@ -1,17 +1,16 @@
 -- A vector's part: where its labels end, and its readings. Assumes nothing.
 use Prim.Native.Nat.{ℕ, zero, suc, _+_, _*_, _-_, _≤_, _<_}
 use mathlib.Core.Path.{_≡_, refl, sym, ap, _∙_}
-use mathlib.Core.Bool.{Bool, true, false, cond}
+use mathlib.Core.Bool.{cond}
 use mathlib.Core.List.{List, [], _∷_, _++_}
 use native.Mathlib.Omega.{arith}
-use lib.ListN.{length, getD, take, drop, set, length-drop, drop-of-length-le}
+use lib.ListN.{length, take, drop, set, length-drop, drop-of-length-le}
 use lib.Seq.{drop-drop, take-all}
 use lib.Dec.{eqb}
-use borrow.Author.Tests.{eq-eqb, ne-eqb, eqb-true}
-use Rattle.model.specs.Lists.{cases}
+use borrow.Author.Tests.{eq-eqb, ne-eqb}
 use Rattle.model.specs.Vector.{twoBytesAt}
-use Rattle.label_edits.specs.Written.{Put}
-use Rattle.label_edits.proofs.Written.{Rest, rest-start, rest-put, rest-done, put-byte-done, written-none}
+use Rattle.writing.specs.Written.{Put}
+use Rattle.writing.proofs.Written.{Rest, rest-start, rest-put, rest-done, put-byte-done, written-none}
 use Rattle.vecop_frame.specs.Frames.{eightBytesAt}
 use Rattle.vecop_frame.specs.Sides.{labelsSize, readingBytes, readingCount, wordsIn, otherThan, readingsIn}
 use Rattle.vecop_frame.specs.SideLaws.{words-length}

@@ -3,8 +3,8 @@ use Prim.Native.Nat.{ℕ, _+_, _-_, _≤_, _<_}
 use mathlib.Core.Path.{_≡_}
 use mathlib.Core.List.{List}
 use lib.ListN.{length, take, drop}
-use Rattle.labels.specs.declared.Place.{Place}
-use Rattle.labels.specs.declared.Place.the-variants.{At, Short}
+use Rattle.fields.specs.declared.Place.{Place}
+use Rattle.fields.specs.declared.Place.the-variants.{At, Short}
 use Rattle.vecop_frame.specs.Frames.{Part, part, cutPart, readPart, Framed, three, unreadable, framed, maxInput}
 use Rattle.vecop_frame.specs.Sides.{labelsIn, readingBytes}
 use Rattle.vecop_frame.specs.declared.Parts.{Parts}

@@ -1,11 +1,11 @@
 // The input of the program: its three parts, and of a vector's part the labels and the readings. Parts are places, and nothing is copied
 // but the readings, which become numbers.
-use labels::Place;
+use fields::Place;
 ghost use mathlib.Core.Path.{_≡_};
 ghost use Prim.Native.Nat.{_+_, _*_, _≤_, _<_};
 ghost use lib.ListN.{length};
 ghost use Rattle.model.specs.Vector.{twoBytesAt};
-ghost use Rattle.label_edits.specs.Written.{Put};
+ghost use Rattle.writing.specs.Written.{Put};
 ghost use Rattle.vecop_frame.specs.Frames.{fourBytesAt, eightBytesAt, maxInput};
 ghost use Rattle.vecop_frame.specs.Sides.{readingCount, wordsIn, readingsIn};
 ghost use Rattle.vecop_frame.specs.Found.{Read, PartFound, PartsFound, Split};

@@ -11,7 +11,7 @@ use borrow.Author.Tests.{eq-eqb, ne-eqb, le-leb, lt-leb, lt-ltb, le-ltb}
 use Rattle.model.specs.Lists.{cases}
 use Rattle.vecop_labels.specs.Numerals.{digit, hexadecimal}
 use Rattle.vecop_labels.specs.LabelText.{among, isSpecial, isPlain, escaped}
-use Rattle.label_edits.specs.Written.{Put}
+use Rattle.writing.specs.Written.{Put}
 use Rattle.vecop_labels.proofs.Runs.{GatherLeft, gather-room}
 
 pub in-keys : (ks : List ℕ) (b : ℕ) → OneOf ks b → true ≡ among ks b

@@ -1,18 +1,17 @@
 -- Digits written from the last to the first, and counted. Assumes nothing.
 use Prim.Native.Nat.{ℕ, zero, suc, _≤_, _<_, _+_, _-_, _/_, _%_, _^_}
 use mathlib.Core.Path.{_≡_, refl, sym, ap, _∙_}
-use mathlib.Core.List.{List, [], _∷_, _++_, append-assoc}
+use mathlib.Core.List.{List, [], _∷_, _++_}
 use native.Mathlib.Omega.{arith}
 use native.Mathlib.Numerals.{add-one}
 use native.Mathlib.Nat.{mod-lt}
 use mir.Syntax.{w64}
 use mir.Val.{Fits}
-use lib.ListN.{length, take, drop, set, getD, length-append, length-set}
+use lib.ListN.{length, take, drop, set, length-append, length-set}
 use lib.Seq.{drop-cons, drop-set-lt, take-set-le, getD-set-same, append-snoc, lt-length-set}
-use borrow.Author.Tests.{lt-ltb, le-ltb}
-use Rattle.label_edits.specs.Written.{written, Put}
-use Rattle.label_edits.proofs.Written.{written-none}
-use Rattle.vecop_labels.specs.Numerals.{digit, digits, digitCount, decimal}
+use Rattle.writing.specs.Written.{written, Put}
+use Rattle.writing.proofs.Written.{written-none}
+use Rattle.vecop_labels.specs.Numerals.{digit, digits}
 
 pub digits-length : (base k n : ℕ) → length (digits base k n) ≡ k
 unfolding digits

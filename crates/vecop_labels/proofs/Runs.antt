@@ -1,14 +1,14 @@
 -- What several writes in a row come to, and the writes of a list's elements. Assumes nothing.
-use Prim.Native.Nat.{ℕ, suc, _≤_, _<_, _+_}
+use Prim.Native.Nat.{ℕ, _≤_, _<_, _+_}
 use mathlib.Core.Path.{_≡_, refl}
 use mathlib.Core.List.{List, [], _∷_, _++_}
 use native.Mathlib.Omega.{arith}
 use native.Mathlib.Numerals.{add-one}
-use lib.ListN.{length, getD, drop, length-append, drop-of-length-le}
+use lib.ListN.{length, getD, drop, drop-of-length-le}
 use lib.Seq.{drop-cons}
 use Rattle.model.specs.Lists.{gather}
-use Rattle.label_edits.specs.Written.{Put}
-use Rattle.label_edits.proofs.Written.{Rest, rest-start, rest-room, rest-put, rest-last, rest-done}
+use Rattle.writing.specs.Written.{Put}
+use Rattle.writing.proofs.Written.{Rest, rest-start, rest-room, rest-put, rest-last, rest-done}
 
 -- a piece a of what is left to write of W, and b behind it
 module _ (d₀ : List ℕ) (at : ℕ) (W d : List ℕ) (o : ℕ) where

@@ -3,8 +3,8 @@ use Prim.Native.Nat.{ℕ, _≤_, _+_}
 use mathlib.Core.List.{List, [], _∷_, _++_}
 use lib.ListN.{length}
 use Rattle.model.specs.Labels.{Tag, Labels}
-use Rattle.label_edits.specs.Written.{Put}
-use Rattle.label_edits.proofs.Written.{Rest, rest-start}
+use Rattle.writing.specs.Written.{Put}
+use Rattle.writing.proofs.Written.{Rest, rest-start}
 use Rattle.vecop_labels.specs.Numerals.{digits, hexadecimal}
 use Rattle.vecop_labels.specs.LabelText.{escapedAll, tagOf, tagText, tagsText, bracedTags, labelsText}
 use Rattle.vecop_labels.proofs.Runs.{piece-room, piece-put, last-room, last-put}

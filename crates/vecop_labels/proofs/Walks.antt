@@ -1,24 +1,24 @@
 -- A record's name and tags, walked and written. Assumes nothing.
 use Prim.Native.Nat.{ℕ, _≤_, _<_, _+_, _-_, _^_}
-use mathlib.Core.Path.{_≡_, refl, sym}
+use mathlib.Core.Path.{_≡_, refl}
 use mathlib.Core.List.{List, [], _∷_, _++_}
 use native.Mathlib.Omega.{arith}
 use mir.Syntax.{w64}
 use mir.Val.{Fits}
 use lib.ListN.{length, take, drop}
 use Rattle.model.specs.Labels.{Tag}
-use Rattle.labels.specs.Fields.{fieldAt}
-use Rattle.labels.specs.declared.Place.{Place}
-use Rattle.labels.specs.declared.Place.the-variants.{At, Short}
-use Rattle.labels.proofs.Fields.{placed, unplaced}
-use Rattle.metric_name.specs.Lenient.{tagsUpTo, labelsOf}
-use Rattle.metric_name.specs.Cursors.{NextAt, TagsOf, tagAt, every}
-use Rattle.metric_name.specs.declared.Next.{Next}
-use Rattle.metric_name.specs.declared.Next.the-variants as N
-use Rattle.metric_name.specs.declared.Tags.{Tags}
-use Rattle.metric_name.proofs.Cursors.{next-stands, next-tags, next-ended}
-use Rattle.label_edits.specs.Written.{Put}
-use Rattle.label_edits.proofs.Written.{Rest, rest-start, rest-room, rest-put, rest-done, rest-as, written-none}
+use Rattle.fields.specs.Fields.{fieldAt}
+use Rattle.fields.specs.declared.Place.{Place}
+use Rattle.fields.specs.declared.Place.the-variants.{At, Short}
+use Rattle.fields.proofs.Fields.{placed, unplaced}
+use Rattle.record_tags.specs.Lenient.{tagsUpTo, labelsOf}
+use Rattle.record_tags.specs.Cursors.{NextAt, TagsOf, tagAt, every}
+use Rattle.record_tags.specs.declared.Next.{Next}
+use Rattle.record_tags.specs.declared.Next.the-variants as N
+use Rattle.record_tags.specs.declared.Tags.{Tags}
+use Rattle.record_tags.proofs.Cursors.{next-stands, next-tags, next-ended}
+use Rattle.writing.specs.Written.{Put}
+use Rattle.writing.proofs.Written.{Rest, rest-start, rest-done, rest-as}
 use Rattle.vecop_labels.specs.LabelText.{escapedAll, tagText, moreTags, tagsText, bracedTags}
 use Rattle.vecop_labels.proofs.Runs.{piece-room, piece-put, last-room, last-put}
 use Rattle.vecop_labels.proofs.Texts.{braced-1, braced-2, braced-3, braced-put}

@@ -1,14 +1,14 @@
 // A number's digits and a record's labels as the program prints them, written into a lent buffer.
-use label_edits::put_byte;
-use label_edits::put_bytes;
-use labels::Place;
-use metric_name::Next;
+use fields::Place;
+use record_tags::Next;
+use writing::put_byte;
+use writing::put_bytes;
 ghost use mathlib.Core.Path.{_≡_};
 ghost use mathlib.Core.List.{[], _∷_, _++_};
 ghost use Prim.Native.Nat.{_+_, _≤_, _<_};
 ghost use lib.ListN.{length, drop};
-ghost use Rattle.label_edits.specs.Written.{Put};
-ghost use Rattle.metric_name.specs.Lenient.{tagsUpTo, labelsOf};
+ghost use Rattle.writing.specs.Written.{Put};
+ghost use Rattle.record_tags.specs.Lenient.{tagsUpTo, labelsOf};
 ghost use Rattle.vecop_labels.specs.Numerals.{digit, digits, hexadecimal};
 ghost use Rattle.vecop_labels.specs.LabelText.{isSpecial, isPlain, escaped, escapedAll, tagOf, tagText, moreTags, tagsText, bracedTags, labelsText};
 
@@ -127,7 +127,7 @@ fn put_more_tags(out: &mut [u8], at: usize, rec: &[u8], from: usize, n: usize) -
             key_end,
             end,
             left,
-        } = metric_name::next_tag(rec, p, m)
+        } = record_tags::next_tag(rec, p, m)
         else {
             return o;
         };
@@ -148,7 +148,7 @@ fn put_tags(out: &mut [u8], at: usize, rec: &[u8], from: usize, n: usize) -> usi
         key_end,
         end,
         left,
-    } = metric_name::next_tag(rec, from, n)
+    } = record_tags::next_tag(rec, from, n)
     else {
         return at;
     };
@@ -161,7 +161,7 @@ fn put_name(out: &mut [u8], at: usize, rec: &[u8]) -> usize
     requires { ⌜ at + length (escapedAll (labelsOf (now rec) .name)) ≤ length (now out) ⌝ }
     ensures { λ r. ⌜ Put (now (out .entry)) at (escapedAll (labelsOf (now (rec .entry)) .name)) (now (out .exit)) r ⌝ }
 {
-    match labels::field_at(rec, 0) {
+    match fields::field_at(rec, 0) {
         Place::At { start, end } => put_field(out, at, &rec[start..end]),
         Place::Short => at,
     }
@@ -171,7 +171,7 @@ fn put_braced(out: &mut [u8], at: usize, rec: &[u8]) -> usize
     requires { ⌜ at + length (bracedTags (labelsOf (now rec) .tags)) ≤ length (now out) ⌝ }
     ensures { λ r. ⌜ Put (now (out .entry)) at (bracedTags (labelsOf (now (rec .entry)) .tags)) (now (out .exit)) r ⌝ }
 {
-    let t = metric_name::tags_of(rec);
+    let t = record_tags::tags_of(rec);
     let from = t.at;
     let n = t.count;
     let o = put_byte(out, at, b'{');

@@ -8,9 +8,9 @@ use mir.Syntax.{w64}
 use mir.Val.{Fits}
 use lib.ListN.{length, take, drop, length-drop, length-append}
 use lib.Seq.{take-all, take-at, length-take-le}
-use Rattle.label_edits.specs.Written.{written, Put}
-use Rattle.vecop_frame.specs.Frames.{framed, maxInput}
-use Rattle.vecop_frame.specs.Sides.{labelsIn, readingsIn}
+use Rattle.writing.specs.Written.{written, Put}
+use Rattle.vecop_frame.specs.Frames.{maxInput}
+use Rattle.vecop_frame.specs.Sides.{readingsIn}
 use Rattle.vecop_frame.specs.Found.{PartsFound, Split}
 use Rattle.vecop_frame.specs.declared.Parts.{Parts}
 use Rattle.vecop_frame.specs.declared.Parts.the-variants.{Three, Unreadable}

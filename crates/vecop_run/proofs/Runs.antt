@@ -1,24 +1,21 @@
 -- A call that ran, printed: its answer lies in the output parts, its text fits, and it is the text of what the call means. Assumes nothing.
 use Prim.Native.Nat.{ℕ, _+_, _*_, _≤_}
-use mathlib.Core.Path.{_≡_, refl, sym, ap, _∙_}
+use mathlib.Core.Path.{_≡_, refl, ap, _∙_}
 use mathlib.Core.List.{List, [], _∷_, _++_}
 use native.Mathlib.Omega.{arith}
 use mir.Syntax.{w8, w64}
 use mir.Val.{Fits}
 use lib.ListN.{length, getD, take, drop, length-append}
-use lib.Seq.{take-append-seam, take-at}
-use Rattle.model.specs.Labels.{Bytes}
-use Rattle.model.specs.Vector.{Readings}
+use lib.Seq.{take-append-seam}
 use Rattle.semantics.specs.Call as Call
 use Rattle.semantics.specs.Call.{refused, answered, call}
-use Rattle.theorems.specs.Claims.Valid.{ValidAnswer}
 use Rattle.theorems.specs.Valid.{answers-are-valid}
 use Rattle.answers.specs.Outcomes.{told, wanted, labelsAfter, readingsAfter, startingWith, Ran}
 use Rattle.answers.specs.Outcomes as O
 use Rattle.answers.specs.declared.Outcome.{Outcome}
 use Rattle.keyed_sides.specs.Lent.{bytes-of, readings-of}
-use Rattle.label_edits.specs.Written.{Put}
-use Rattle.vecop_text.specs.Text.{answerText, refusalText, printed}
+use Rattle.writing.specs.Written.{Put}
+use Rattle.vecop_text.specs.Text.{printed}
 use Rattle.vecop_text.specs.Told.{toldText, Within}
 use Rattle.vecop_run.specs.Vecop.{ran, maxText}
 use Rattle.vecop_run.proofs.Sizes.{answer-size, refusal-size}

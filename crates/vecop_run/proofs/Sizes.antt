@@ -1,16 +1,15 @@
 -- How long a text is at most: 3 bytes a label byte, 17 a reading, and the first line. Assumes nothing.
 use Prim.Native.Nat.{ℕ, zero, suc, _+_, _*_, _/_, _≤_}
 use mathlib.Core.Path.{_≡_, refl, sym, ap, _∙_}
-use mathlib.Core.Bool.{true, false}
 use mathlib.Core.List.{List, [], _∷_, _++_}
 use native.Mathlib.Omega.{arith}
 use lib.ListN.{length, take, drop, length-append, take-append-drop}
 use lib.Dec.{ltb}
-use Rattle.model.specs.Lists.{cases, gather}
+use Rattle.model.specs.Lists.{cases}
 use Rattle.model.specs.Labels.{Tag, Labels}
 use Rattle.model.specs.Record.{Decoded, decoded, cut, badKey, decode, encodeField, encodeTags, encode}
 use Rattle.model.specs.Laws.Record.{decode-is}
-use Rattle.vecop_labels.specs.Numerals.{digits, digitCount, decimal}
+use Rattle.vecop_labels.specs.Numerals.{digitCount, decimal}
 use Rattle.vecop_labels.specs.LabelText.{isPlain, escaped, escapedAll, tagText, moreTags, tagsText, bracedTags, labelsText}
 use Rattle.vecop_text.specs.Text.{readingText, rowText, lineText, onRecord, linesText, twoNumbers, answerText, refusalText}
 use Rattle.vecop_labels.proofs.Numerals.{digits-length}

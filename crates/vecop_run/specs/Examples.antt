@@ -3,7 +3,6 @@ use Prim.Native.Nat.{ℕ}
 use mathlib.Core.Path.{_≡_, refl}
 use mathlib.Core.List.{List, [], _∷_, _++_, map}
 use lib.ListN.{length, take}
-use Rattle.model.specs.Labels.{Labels}
 use Rattle.semantics.specs.Call.{refused}
 use Rattle.semantics.specs.Computing.{computing}
 use Rattle.vecop_frame.specs.Frames.{readPart, framed}

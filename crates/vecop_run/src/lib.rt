@@ -2,7 +2,7 @@
 ghost use mathlib.Core.Path.{_≡_};
 ghost use Prim.Native.Nat.{_≤_};
 ghost use lib.ListN.{length};
-ghost use Rattle.label_edits.specs.Written.{Put};
+ghost use Rattle.writing.specs.Written.{Put};
 ghost use Rattle.vecop_frame.specs.Frames.{maxInput};
 ghost use Rattle.vecop_frame.specs.Sides.{readingsIn};
 ghost use Rattle.vecop_text.specs.Text.{printed};

@@ -5,7 +5,7 @@ use mathlib.Core.List.{List}
 use native.Mathlib.Omega.{arith}
 use lib.ListN.{length}
 use borrow.Author.Tests.{lt-ltb, le-ltb}
-use Rattle.label_edits.specs.Written.{Put}
+use Rattle.writing.specs.Written.{Put}
 use Rattle.vecop_labels.specs.Numerals.{digits, digitCount, decimal}
 
 -- `digit_count`

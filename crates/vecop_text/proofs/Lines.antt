@@ -10,14 +10,14 @@ use lib.ListN.{length, getD, take, drop}
 use lib.Seq.{drop-drop}
 use Rattle.model.specs.Labels.{Labels}
 use Rattle.model.specs.Record.{Decoded, decoded, cut, badKey, decode}
-use Rattle.labels.proofs.Fields.{more}
-use Rattle.metric_name.specs.Records.{recordOf}
-use Rattle.metric_name.specs.Lenient.{labelsOf, RecordAt, record-found}
-use Rattle.metric_name.specs.declared.Record.{Record}
-use Rattle.metric_name.specs.declared.Record.the-variants.{Ok, Cut, BadKey}
-use Rattle.label_edits.specs.Written.{Put}
-use Rattle.label_edits.proofs.Written.{Rest, rest-start, rest-done, rest-as}
-use Rattle.vecop_text.specs.Text.{readingText, lineText, onRecord, linesText}
+use Rattle.fields.proofs.Fields.{more}
+use Rattle.label_records.specs.Records.{recordOf}
+use Rattle.record_tags.specs.Lenient.{labelsOf, RecordAt, record-found}
+use Rattle.label_records.specs.declared.Record.{Record}
+use Rattle.label_records.specs.declared.Record.the-variants.{Ok, Cut, BadKey}
+use Rattle.writing.specs.Written.{Put}
+use Rattle.writing.proofs.Written.{Rest, rest-start, rest-done, rest-as}
+use Rattle.vecop_text.specs.Text.{readingText, lineText, linesText}
 use Rattle.vecop_labels.proofs.Runs.{piece-room, piece-put, GatherLeft, gather-room}
 
 pub record LinesLeft (n p : ℕ) (x y d₀ : List ℕ) (at : ℕ) (d : List ℕ) (o from row left : ℕ) : Type 0 where

@@ -8,7 +8,7 @@ use mir.Val.{Fits}
 use lib.ListN.{length, take}
 use lib.Seq.{length-take-le}
 use Rattle.answers.specs.Outcomes as O
-use Rattle.label_edits.specs.Written.{Put}
+use Rattle.writing.specs.Written.{Put}
 use Rattle.vecop_text.specs.Text.{answerText, refusalText}
 use Rattle.vecop_text.specs.Told.{toldAs, toldText, Within}
 use Rattle.vecop_text.specs.declared.Told.{Told}

@@ -4,8 +4,8 @@ use native.Mathlib.Nat.{zero-add}
 use mathlib.Core.List.{List, [], _∷_, _++_}
 use lib.ListN.{length}
 use Rattle.model.specs.Labels.{Labels}
-use Rattle.label_edits.specs.Written.{Put}
-use Rattle.label_edits.proofs.Written.{Rest, rest-start}
+use Rattle.writing.specs.Written.{Put}
+use Rattle.writing.proofs.Written.{Rest, rest-start}
 use Rattle.vecop_labels.specs.Numerals.{digits, decimal}
 use Rattle.vecop_labels.specs.LabelText.{labelsText}
 use Rattle.vecop_text.specs.Text.{readingText, rowText, lineText, linesText, twoNumbers, answerText, refusalText}

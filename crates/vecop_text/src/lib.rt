@@ -1,15 +1,15 @@
 // What the program prints for an outcome, written into a lent buffer.
 use answers::Outcome;
-use label_edits::put_byte;
-use label_edits::put_bytes;
-use metric_name::Record;
+use label_records::Record;
 use vecop_labels::put_digits;
 use vecop_labels::put_labels;
+use writing::put_byte;
+use writing::put_bytes;
 ghost use mathlib.Core.Path.{_≡_};
 ghost use Prim.Native.Nat.{_+_, _*_, _≤_};
 ghost use lib.ListN.{length};
-ghost use Rattle.label_edits.specs.Written.{Put};
-ghost use Rattle.metric_name.specs.Lenient.{labelsOf};
+ghost use Rattle.writing.specs.Written.{Put};
+ghost use Rattle.record_tags.specs.Lenient.{labelsOf};
 ghost use Rattle.answers.specs.Outcomes.{told};
 ghost use Rattle.vecop_labels.specs.Numerals.{digitCount, decimal};
 ghost use Rattle.vecop_text.specs.Text.{readingText, rowText, lineText, linesText, twoNumbers, answerText, refusalText, unreadableText};
@@ -85,7 +85,7 @@ fn put_lines(
     let mut row: usize = 0;
     let mut left = n;
     while 0 < left {
-        match metric_name::read_record(labels, from) {
+        match label_records::read_record(labels, from) {
             Record::Ok { next } => {
                 let end = row + p;
                 o = put_line(out, o, &labels[from..next], &readings[row..end]);

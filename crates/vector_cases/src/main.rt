@@ -1,20 +1,12 @@
 // Takes the vectors on standard input, and writes a line for each: what taking comes to, with 01's number and place for a fault, then the
 // positions that it noted. A vector is two bytes of length and the label part, then two bytes that say how many readings are lent; in
 // both numbers the low byte comes first.
+use case_parts::number_at;
+use case_parts::part_at;
+use case_text::print;
+use case_text::print_number;
 use libc::STDIN_FILENO;
-use libc::STDOUT_FILENO;
 use timeseries::Taken;
-ghost use Prim.Native.Nat.{_≤_, _<_};
-ghost use lib.ListN.{length};
-
-fn print(text: &[u8]) {
-    io::write_all(STDOUT_FILENO, text);
-}
-
-fn print_number(n: usize) {
-    print(b" ");
-    io::print_decimal(STDOUT_FILENO, n as u64);
-}
 
 fn print_taken(t: Taken) {
     match t {
@@ -66,38 +58,13 @@ fn take(labels: &[u8], readings: usize) {
     print(b"\n");
 }
 
-fn wide(b: u8) -> usize
-    ensures { λ r. ⌜ r < 256 ⌝ }
-{
-    b as usize
-}
-
-// The number at a place, which has two bytes.
-fn number_at(s: &[u8], at: usize) -> usize
-    requires { ⌜ at < length (now s) ⌝ }
-    ensures { λ r. ⌜ r < 65536 ⌝ }
-{
-    let next = at + 1;
-    if s.len() <= next {
-        return 0;
-    }
-    wide(s[at]) + 256 * wide(s[next])
-}
-
 fn run(s: &[u8]) {
     let mut p: usize = 0;
     while p < s.len() {
-        let start = p + 2;
-        let n = number_at(s, p);
-        if s.len() <= start {
-            return;
-        }
-        if s.len() - start <= n {
-            return;
-        }
-        let end = start + n;
-        take(&s[start..end], number_at(s, end));
-        p = end + 2;
+        let labels = part_at(s, p);
+        let readings_at = p + 2 + labels.len();
+        take(labels, number_at(s, readings_at));
+        p = readings_at + 2;
     }
 }
 

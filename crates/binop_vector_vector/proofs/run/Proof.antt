@@ -1,6 +1,6 @@
 use borrow.Author.Needs.{needs}
-use mathlib.Core.Path.{sym}
-use Rattle.keyed_sides.proofs.Numbering.{front-long, front-count, lent-some, lent-few}
+use Rattle.model.specs.Laws.Lists.{front-long}
+use Rattle.keyed_sides.proofs.Numbering.{front-count, lent-some, lent-few}
 use Rattle.binop_vector_vector.proofs.run.Statement.{statement}
 use Rattle.binop_vector_vector.proofs.run.Tie as tie
 use Rattle.binop_vector_vector.proofs.run.Reads as reads

@@ -1,5 +1,4 @@
 use borrow.Author.Needs.{needs}
-use mathlib.Core.Path.{sym}
 use Rattle.keyed_sides.proofs.Numbering.{kept-asked}
 use Rattle.binop_vector_vector.proofs.run_numbered.Statement.{statement}
 use Rattle.binop_vector_vector.proofs.run_numbered.Tie as tie

@@ -1,6 +1,5 @@
 -- `to_comparison_value` meets its contract, from those of its calls. Assumes nothing.
 use mathlib.Core.Path.{_≡_}
-use mathlib.Core.Bool.{cond}
 use Rattle.comparisons.proofs.to_comparison_value.Statement.{statement}
 use Rattle.comparisons.proofs.to_comparison_value.Tie as tie
 

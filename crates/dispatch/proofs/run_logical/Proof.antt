@@ -5,12 +5,6 @@ use Rattle.dispatch.proofs.run_logical.Statement.{statement}
 use Rattle.dispatch.proofs.run_logical.Tie as tie
 use Rattle.dispatch.proofs.run_logical.Reads as reads
 use Rattle.dispatch.proofs.run_logical.Lts as lts
-use Rattle.set_operators.proofs.binary_op_and.Reads as binary-op-and-reads
-use Rattle.set_operators.proofs.binary_op_default.Reads as binary-op-default-reads
-use Rattle.set_operators.proofs.binary_op_if.Reads as binary-op-if-reads
-use Rattle.set_operators.proofs.binary_op_if_not.Reads as binary-op-if-not-reads
-use Rattle.set_operators.proofs.binary_op_or.Reads as binary-op-or-reads
-use Rattle.set_operators.proofs.binary_op_unless.Reads as binary-op-unless-reads
 
 -- src/lib.rt:192:13
 enum-told : tie.Need-enum-told

@@ -1,8 +1,7 @@
 -- `edited_alike::hash_edited` meets its contract. Assumes nothing.
 use borrow.Author.Needs.{needs}
 use Rattle.labels.specs.Names.{namesOf}
-use Rattle.signature.specs.Keys.{hashOf}
-use Rattle.model.specs.Labels.{sameTags}
+use Rattle.chosen_tags.specs.Keys.{hashOf}
 use Prim.Native.Nat.{_+_}
 use Rattle.edited_tags.specs.Streams.{editedTags}
 use Rattle.edited_tags.proofs.Found.{edit-spans, edit-fewer}

@@ -1,7 +1,6 @@
 -- `edited_alike::same_edited` meets its contract. Assumes nothing.
 use borrow.Author.Needs.{needs}
 use Rattle.labels.specs.Names.{namesOf}
-use Rattle.signature.specs.Keys.{hashOf}
 use Rattle.model.specs.Labels.{sameTags}
 use Prim.Native.Nat.{_+_}
 use Rattle.edited_tags.specs.Streams.{editedTags}

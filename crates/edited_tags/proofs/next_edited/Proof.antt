@@ -1,6 +1,6 @@
 -- `edited_tags::next_edited` meets its contract. Assumes nothing.
 use borrow.Author.Needs.{needs}
-use Rattle.metric_name.proofs.Cursors.{key-order, key-within}
+use Rattle.record_tags.proofs.Cursors.{key-order, key-within}
 use Rattle.edited_tags.proofs.Walks.{none-left, many-alone, many-lower, source-alone, source-lower}
 use Rattle.edited_tags.proofs.next_edited.Statement.{statement}
 use Rattle.edited_tags.proofs.next_edited.Tie as tie

@@ -3,9 +3,9 @@ use borrow.Author.Needs.{needs}
 use Prim.Native.Nat.{_-_}
 use lib.ListN.{length}
 use Rattle.labels.specs.Names.{namesOf}
-use Rattle.answers.proofs.Tallies.{Tallying}
+use Rattle.answers.proofs.Tallies.{Tallying, tally-starts, tally-room, tally-turn, tally-ends}
 use Rattle.join_rows.specs.Codes.{rowLabels}
-use Rattle.join_labels.proofs.Records.{code-held, tally-begins, edited-room, edited-turn, edited-ends}
+use Rattle.join_labels.proofs.Records.{code-held}
 use Rattle.join_labels.proofs.tally_join.Statement.{statement}
 use Rattle.join_labels.proofs.tally_join.Tie as tie
 
@@ -16,7 +16,7 @@ abbrev μ-loop : tie.MeasureT-loop
 μ-loop many-array many-at array at list join skip naming t₀ r₀ t r = length list - r
 
 loop-holds : tie.Need-loop-holds Inv-loop μ-loop
-loop-holds c = search tally-begins
+loop-holds c = search tally-starts
 
 mul-code-size : tie.Need-mul-code-size Inv-loop μ-loop
 mul-code-size c = search needs
@@ -28,7 +28,7 @@ code-size-requires : tie.Need-code-size-requires Inv-loop μ-loop
 code-size-requires c κs = search code-held
 
 tallied-requires : tie.Need-tallied-requires Inv-loop μ-loop
-tallied-requires c κs = search edited-room
+tallied-requires c κs = search tally-room
 
 add-r : tie.Need-add-r Inv-loop μ-loop
 add-r c = search needs
@@ -37,10 +37,10 @@ loop-less : tie.Need-loop-less Inv-loop μ-loop
 loop-less c = search needs
 
 loop-again : tie.Need-loop-again Inv-loop μ-loop
-loop-again c = search edited-turn
+loop-again c = search tally-turn
 
 returns : tie.Need-returns Inv-loop μ-loop
-returns c = search edited-ends
+returns c = search tally-ends
 
 pub tally-join-spec : {M : Type 1} → statement M
 tally-join-spec =

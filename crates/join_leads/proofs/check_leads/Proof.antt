@@ -1,6 +1,5 @@
 use borrow.Author.Needs.{needs}
 use Prim.Native.Nat.{_-_}
-use native.Mathlib.Omega.{arith}
 use lib.ListN.{length}
 use Rattle.join_leads.proofs.Checking.{Checking, check-starts, check-past, check-done, check-failed, check-ends}
 use Rattle.join_leads.proofs.check_leads.Statement.{statement}

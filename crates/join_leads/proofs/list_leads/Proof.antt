@@ -1,13 +1,11 @@
 use borrow.Author.Needs.{needs}
 use Prim.Native.Nat.{_-_}
-use native.Mathlib.Omega.{arith}
 use lib.ListN.{length}
 use Rattle.join_leads.proofs.Checking.{Listing, listing-starts, listing-past, listing-lead, listing-ends, code-product, code-fits, count-fits, list-room}
 use Rattle.join_leads.proofs.list_leads.Statement.{statement}
 use Rattle.join_leads.proofs.list_leads.Tie as tie
 use Rattle.join_leads.proofs.list_leads.Reads as reads
 use Rattle.join_leads.proofs.list_leads.Lts as lts
-use Rattle.join_leads.proofs.note.Reads as note-reads
 
 abbrev Inv-loop : tie.InvT-loop
 Inv-loop leads m n list₀ r₀ i₀ list r i = Listing m n leads list₀ list r i

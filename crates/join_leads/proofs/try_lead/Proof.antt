@@ -1,6 +1,7 @@
 use native.Mathlib.Omega.{arith}
 use borrow.Author.Needs.{needs}
-use Rattle.join_leads.proofs.Checking.{tried-alone, front-long, front-held, tried-front}
+use Rattle.model.specs.Laws.Lists.{front-long}
+use Rattle.join_leads.proofs.Checking.{tried-alone, front-held, tried-front}
 use Rattle.join_leads.proofs.try_lead.Statement.{statement}
 use Rattle.join_leads.proofs.try_lead.Tie as tie
 use Rattle.join_leads.proofs.try_lead.Reads as reads

@@ -4,7 +4,7 @@ use Prim.Native.Nat.{_-_}
 use mathlib.Core.Path.{refl}
 use lib.ListN.{length}
 use Rattle.labels.specs.Names.{namesOf}
-use Rattle.join_leads.proofs.Marking.{lent-positions}
+use Rattle.lead_marks.proofs.Marking.{lent-positions}
 use Rattle.join_plan.proofs.Planning.{Planning, after-long, list-long, planning-starts, planning-skip, planning-rows, planning-failed, planning-ends, place-fits, ends-inside, ends-here, record-inside, record-formed}
 use Rattle.join_plan.proofs.plan_join.Statement.{statement}
 use Rattle.join_plan.proofs.plan_join.Tie as tie

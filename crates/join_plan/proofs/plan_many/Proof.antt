@@ -1,6 +1,6 @@
 use borrow.Author.Needs.{needs}
 use mathlib.Core.Path.{sym}
-use Rattle.join_plan.proofs.Planning.{front-long}
+use Rattle.model.specs.Laws.Lists.{front-long}
 use Rattle.join_plan.proofs.plan_many.Statement.{statement}
 use Rattle.join_plan.proofs.plan_many.Tie as tie
 use Rattle.join_plan.proofs.plan_many.Reads as reads

@@ -1,10 +1,10 @@
 use borrow.Author.Needs.{needs}
-use Rattle.join_plan.proofs.Planning.{one-lent, leads-fit, leads-held, leads-narrow, many-planned}
+use Rattle.join_plan.proofs.Planning.{leads-fit, leads-held, leads-narrow, many-planned}
 use Rattle.join_plan.proofs.plan_marked.Statement.{statement}
 use Rattle.join_plan.proofs.plan_marked.Tie as tie
 use Rattle.join_plan.proofs.plan_marked.Reads as reads
 use Rattle.join_plan.proofs.plan_marked.Lts as lts
-use Rattle.join_leads.proofs.mark_leads.Reads as mark-leads-reads
+use Rattle.lead_marks.proofs.mark_leads.Reads as mark-leads-reads
 use Rattle.join_plan.proofs.plan_leads.Reads as plan-leads-reads
 
 -- src/lib.rt:67:5

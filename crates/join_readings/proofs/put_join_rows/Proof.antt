@@ -1,7 +1,7 @@
 -- `put_join_rows` meets its contract. Assumes nothing.
 use borrow.Author.Needs.{needs}
 use mathlib.Core.Path.{sym}
-use Rattle.join_readings.proofs.Rows.{front-long}
+use Rattle.model.specs.Laws.Lists.{front-long}
 use Rattle.join_readings.proofs.put_join_rows.Statement.{statement}
 use Rattle.join_readings.proofs.put_join_rows.Tie as tie
 

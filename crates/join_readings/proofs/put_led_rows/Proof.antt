@@ -3,7 +3,8 @@ use borrow.Author.Needs.{needs}
 use Prim.Native.Nat.{_-_}
 use lib.ListN.{length}
 use Rattle.labels.specs.Names.{namesOf}
-use Rattle.join_readings.proofs.Rows.{RowsDone, rows-begin, rows-long, rows-put, leads-left, from-fits, to-fits, bytes-fit, part-within, part-lent, code-in, code-merges, rows-next, leads-long}
+use Rattle.answers.proofs.Rows.{from-fits, to-fits, bytes-fit}
+use Rattle.join_readings.proofs.Rows.{RowsDone, rows-begin, rows-long, rows-put, leads-left, part-within, part-lent, code-in, code-merges, rows-next, leads-long}
 use Rattle.join_readings.proofs.put_led_rows.Statement.{statement}
 use Rattle.join_readings.proofs.put_led_rows.Tie as tie
 

@@ -1,7 +1,7 @@
 use borrow.Author.Needs.{needs}
 use mathlib.Core.Path.{sym}
-use native.Mathlib.Omega.{arith}
-use Rattle.join_rows.proofs.Rows.{row-inside, row-wide, alone-made, front-long}
+use Rattle.model.specs.Laws.Lists.{front-long}
+use Rattle.join_rows.proofs.Rows.{row-inside, row-wide, alone-made}
 use Rattle.join_rows.proofs.lead_row.Statement.{statement}
 use Rattle.join_rows.proofs.lead_row.Tie as tie
 use Rattle.join_rows.proofs.lead_row.Reads as reads
@@ -9,7 +9,7 @@ use Rattle.join_rows.proofs.lead_row.Lts as lts
 use Rattle.join_rows.proofs.apply_join.Reads as apply-join-reads
 use Rattle.join_rows.proofs.merged_row.Reads as merged-row-reads
 use Rattle.key_places.proofs.last_of.Reads as last-of-reads
-use Rattle.timeseries.proofs.row.Reads as row-reads
+use Rattle.side_parts.proofs.row.Reads as row-reads
 
 -- src/lib.rt:73:8
 last-of-requires : tie.Need-last-of-requires

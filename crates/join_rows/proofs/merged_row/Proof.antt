@@ -1,5 +1,5 @@
 use borrow.Author.Needs.{needs}
-use Rattle.join_rows.proofs.Rows.{work-wide, merged-row, merged-made, work-held}
+use Rattle.join_rows.proofs.Rows.{merged-row, merged-made, work-held}
 use Rattle.join_rows.proofs.merged_row.Statement.{statement}
 use Rattle.join_rows.proofs.merged_row.Tie as tie
 use Rattle.join_rows.proofs.merged_row.Reads as reads

@@ -1,6 +1,7 @@
 -- `single_row` meets its contract. Assumes nothing.
 use borrow.Author.Needs.{needs}
-use Rattle.join_rows.proofs.Rows.{part-wide, single-made}
+use Rattle.answers.proofs.Rows.{row-width}
+use Rattle.join_rows.proofs.Rows.{single-made}
 use Rattle.join_rows.proofs.single_row.Statement.{statement}
 use Rattle.join_rows.proofs.single_row.Tie as tie
 
@@ -11,7 +12,7 @@ row-requires-2 : tie.Need-row-requires-2
 row-requires-2 c κs = search needs
 
 apply-join-requires : tie.Need-apply-join-requires
-apply-join-requires c κs = (search part-wide, search part-wide)
+apply-join-requires c κs = (search row-width, search row-width)
 
 same-length : tie.Need-same-length
 same-length c = search needs

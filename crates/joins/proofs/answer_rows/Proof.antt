@@ -1,6 +1,7 @@
 -- `answer_rows` meets its contract. Assumes nothing.
 use borrow.Author.Needs.{needs}
-use Rattle.joins.proofs.Joining.{front-long, list-holds, join-asked, joined-many, joined-rows}
+use Rattle.model.specs.Laws.Lists.{front-long}
+use Rattle.joins.proofs.Joining.{list-holds, join-asked, joined-many, joined-rows}
 use Rattle.joins.proofs.answer_rows.Statement.{statement}
 use Rattle.joins.proofs.answer_rows.Tie as tie
 

@@ -1,6 +1,7 @@
 -- `key_cases::number_sides` meets its contract. Assumes nothing.
 use borrow.Author.Needs.{needs}
-use Rattle.key_cases.proofs.Taking.{front-long, front-count, fronts-alike}
+use Rattle.model.specs.Laws.Lists.{front-long}
+use Rattle.key_cases.proofs.Taking.{front-count, fronts-alike}
 use Rattle.key_cases.proofs.number_sides.Statement.{statement}
 use Rattle.key_cases.proofs.number_sides.Tie as tie
 

@@ -1,7 +1,6 @@
 -- `ends_at` meets its contract. Assumes nothing.
 use Rattle.key_ends.proofs.Tables.{first-fits, ends-fit, ends-told}
 use borrow.Author.Needs.{needs}
-use native.Mathlib.Omega.{arith}
 use Rattle.key_ends.proofs.ends_at.Statement.{statement}
 use Rattle.key_ends.proofs.ends_at.Tie as tie
 

@@ -1,7 +1,6 @@
 -- `first_at` meets its contract. Assumes nothing.
 use Rattle.key_ends.proofs.Tables.{first-table, first-read}
 use borrow.Author.Needs.{needs}
-use native.Mathlib.Omega.{arith}
 use Rattle.key_ends.proofs.first_at.Statement.{statement}
 use Rattle.key_ends.proofs.first_at.Tie as tie
 

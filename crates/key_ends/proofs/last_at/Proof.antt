@@ -1,7 +1,6 @@
 -- `last_at` meets its contract. Assumes nothing.
 use Rattle.key_ends.proofs.Tables.{last-table, last-read}
 use borrow.Author.Needs.{needs}
-use native.Mathlib.Omega.{arith}
 use Rattle.key_ends.proofs.last_at.Statement.{statement}
 use Rattle.key_ends.proofs.last_at.Tie as tie
 

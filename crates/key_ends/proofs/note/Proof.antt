@@ -1,7 +1,6 @@
 -- `note` meets its contract. Assumes nothing.
 use Rattle.key_ends.proofs.Tables.{note-there, note-nowhere}
 use borrow.Author.Needs.{needs}
-use native.Mathlib.Omega.{arith}
 use Rattle.key_ends.proofs.note.Statement.{statement}
 use Rattle.key_ends.proofs.note.Tie as tie
 

@@ -4,7 +4,7 @@ use Prim.Native.Nat.{_-_}
 use native.Mathlib.Omega.{arith}
 use lib.ListN.{length}
 use Rattle.labels.specs.Matchings.{matchingOf}
-use Rattle.timeseries.specs.Sides.{labelsIn}
+use Rattle.side_parts.specs.Sides.{labelsIn}
 use Rattle.key_numbers.proofs.Numbering.{Numbering, number-starts, number-positions, number-inside, number-cut, number-hashes, number-so-far, number-table, number-size, number-turn, number-ends}
 use Rattle.key_numbers.proofs.number_noted.Statement.{statement}
 use Rattle.key_numbers.proofs.number_noted.Tie as tie

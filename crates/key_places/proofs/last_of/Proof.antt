@@ -1,7 +1,6 @@
 -- `key_places::last_of` meets its contract. Assumes nothing.
 use borrow.Author.Needs.{needs}
 use Prim.Native.Nat.{_-_}
-use lib.ListN.{length}
 use Rattle.key_places.proofs.Searches.{Behind, last-starts, last-turn, last-here, last-ends}
 use Rattle.key_places.proofs.last_of.Statement.{statement}
 use Rattle.key_places.proofs.last_of.Tie as tie

@@ -1,6 +1,6 @@
 use borrow.Author.Needs.{needs}
 use mathlib.Core.Path.{sym}
-use Rattle.keyed_sides.proofs.Numbering.{front-long}
+use Rattle.model.specs.Laws.Lists.{front-long}
 use Rattle.keyed_sides.proofs.number_sides.Statement.{statement}
 use Rattle.keyed_sides.proofs.number_sides.Tie as tie
 use Rattle.keyed_sides.proofs.number_sides.Reads as reads

@@ -37,13 +37,13 @@ use denote.Triple.Table.{entered, cited}
 use denote.Triple.Walked.{says, Stays, stay-none, walkOf, goes-none, ends-at}
 use denote.Exit.{yes}
 use denote.Triple.Clauses.{ensured, lasts}
-use Rattle.metric_name.specs.declared.Record.{Record}
-use Rattle.metric_name.proofs.Record as S
-use Rattle.metric_name.proofs.Record.Laws as S′
-use Rattle.metric_name.proofs.read_record as callee
-use Rattle.metric_name.proofs.read_record.Symbol as callee-def
-use Rattle.metric_name.proofs.read_record.Symbol.{name as #metric-name·read-record}
-use Rattle.metric_name.proofs.read_record.Met as callee-thm
+use Rattle.label_records.specs.declared.Record.{Record}
+use Rattle.label_records.proofs.Record as S
+use Rattle.label_records.proofs.Record.Laws as S′
+use Rattle.label_records.proofs.read_record as callee
+use Rattle.label_records.proofs.read_record.Symbol as callee-def
+use Rattle.label_records.proofs.read_record.Symbol.{name as #label-records·read-record}
+use Rattle.label_records.proofs.read_record.Met as callee-thm
 use Rattle.label_reader.specs.Reads.{readFrom}
 use Rattle.label_reader.specs.declared.LabelReader.{LabelReader}
 use Rattle.label_reader.proofs.LabelReader.Laws as T′
@@ -98,7 +98,7 @@ module _ {M : Type 1} (𝓤 : URA M) (H : Heap 𝓤) (A : Atoms 𝓤) (W : Given
       suffices ! _ (ends-at 𝓤 H A read.ended stayed (read.clauses 𝓤 H A mem run) W (((κ, tt), (q, tt), tt, (d, tt), (mach ∷ [], tt)), tt) u r (tt, tt) (tt, tt)) $ says ! e $
       move ! (1 ∷ []) $ frame ! $ nothing ! $ move ! (2 ∷ 0 ∷ []) $ fjoin ! $ frame ! $ done !
 
-  module _ (C : Calls 𝓤 H) (Λ : Loops 𝓤 H) (fm : FmC 𝓤 H (W .laws) C) (known : Triple 𝓤 (C #metric-name·read-record) (Callee 𝓤 H A mem run)) where
+  module _ (C : Calls 𝓤 H) (Λ : Loops 𝓤 H) (fm : FmC 𝓤 H (W .laws) C) (known : Triple 𝓤 (C #label-records·read-record) (Callee 𝓤 H A mem run)) where
     walk : Holds (hasTy (T′.mir (named 0)) mach) × WT mach → ent 𝓤 (onEntry 𝓤 H A read.signature (κ, tt) (q, tt) (d, tt) (mach ∷ [], tt)) (WpFn 𝓤 H C Λ code.function (mach ∷ []) Post)
     walk wt =
         qed W (raw (onEntry 𝓤 H A read.signature (κ, tt) (q, tt) (d, tt) (mach ∷ [], tt)) ∷ []) ∵ enter ! C Λ code.function (mach ∷ []) _ $
@@ -116,7 +116,7 @@ module _ {M : Type 1} (𝓤 : URA M) (H : Heap 𝓤) (A : Atoms 𝓤) (W : Given
         move ! (9 ∷ 10 ∷ []) $ free1 ! $ move ! (7 ∷ 8 ∷ []) $ free1 ! $ move ! (5 ∷ 6 ∷ []) $ free1 ! $ move ! (3 ∷ 4 ∷ []) $ free1 ! $ free0 ! $ by ! (exits r u e)))))))))
 
 meets : {M : Type 1} (𝓤 : URA M) (H : Heap 𝓤) (A : Atoms 𝓤) (W : Given 𝓤 H A) (mem : Memory → SProp 𝓤) (run : Routine → Fun 𝓤) (𝓣 : Tables 𝓤 H)
-    → Triple 𝓤 (𝓣 .C #metric-name·read-record) (Callee 𝓤 H A mem run) → Meets 𝓤 H A read.signature (WpFn 𝓤 H (𝓣 .C) (𝓣 .Λ) code.function) (read.spec 𝓤 H A mem run)
+    → Triple 𝓤 (𝓣 .C #label-records·read-record) (Callee 𝓤 H A mem run) → Meets 𝓤 H A read.signature (WpFn 𝓤 H (𝓣 .C) (𝓣 .Λ) code.function) (read.spec 𝓤 H A mem run)
 meets 𝓤 H A W mem run 𝓣 known =
     by-walk 𝓤 H A W 𝓣 code.function read.ended stayed (read.clauses 𝓤 H A mem run) (goes-none 𝓤 H A W 1 B yes (λ κs x f. refl), tt)
     (λ κs. (LL.vals (D κs) (L κs), tt)) (λ κs. (LL.tells (D κs) (L κs), tt))
@@ -128,4 +128,4 @@ read-spec 𝓤 H 𝓜 𝓖 𝓡 =
     entered 𝓤 H (tripleOf 𝓤 H (𝓖 .A) read.signature (read.spec 𝓤 H (𝓖 .A) (𝓜 .mem) (𝓡 .run)))
     (tables 𝓤 H 𝓜 𝓡 code.env .C) (tables 𝓤 H 𝓜 𝓡 code.env .Λ) #label-reader·read code.function (code.unfolded 𝓤 H 𝓜 𝓡)
     (meets 𝓤 H (𝓖 .A) (givenOf 𝓤 H 𝓜 𝓖) (𝓜 .mem) (𝓡 .run) (tablesOf 𝓤 H 𝓜 (tables 𝓤 H 𝓜 𝓡 code.env))
-    (cited 𝓤 H (Callee 𝓤 H (𝓖 .A) (𝓜 .mem) (𝓡 .run)) 𝓜 𝓡 code.env #metric-name·read-record callee-def.routine code.calls-metric-name·read-record (callee-thm.met 𝓤 H 𝓜 𝓖 𝓡)))
+    (cited 𝓤 H (Callee 𝓤 H (𝓖 .A) (𝓜 .mem) (𝓡 .run)) 𝓜 𝓡 code.env #label-records·read-record callee-def.routine code.calls-label-records·read-record (callee-thm.met 𝓤 H 𝓜 𝓖 𝓡)))

@@ -36,9 +36,9 @@ use denote.Triple.Table.{entered, cited}
 use denote.Triple.Walked.{says, Stays, stay-none, stay-none-slice, walkOf, goes-none, goes-none-slice, ends-at}
 use denote.Exit.{yes}
 use denote.Triple.Clauses.{ensured, lasts}
-use Rattle.metric_name.specs.declared.Record.{Record}
-use Rattle.metric_name.proofs.Record as S
-use Rattle.metric_name.proofs.Record.Laws as S′
+use Rattle.label_records.specs.declared.Record.{Record}
+use Rattle.label_records.proofs.Record as S
+use Rattle.label_records.proofs.Record.Laws as S′
 use Rattle.label_reader.specs.Reads.{readFrom}
 use Rattle.label_reader.specs.declared.LabelReader.{LabelReader}
 use Rattle.label_reader.proofs.LabelReader as T

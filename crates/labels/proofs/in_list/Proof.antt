@@ -2,7 +2,7 @@
 use borrow.Author.Needs.{needs}
 use mathlib.Core.Path.{_≡_}
 use lib.ListN.{drop}
-use Rattle.labels.proofs.Fields.{place-order, place-within, byte-fits}
+use Rattle.fields.proofs.Fields.{place-order, place-within, byte-fits}
 use Rattle.model.specs.Edits.{isListed}
 use Rattle.labels.specs.Names.{namesUpTo, namesOf}
 use Rattle.labels.proofs.Names.{list-none, list-start, list-end, list-cut, list-hit, list-turn}

@@ -1,6 +1,6 @@
 -- `labels::is_star` meets its contract. Assumes nothing.
 use borrow.Author.Needs.{needs}
-use Rattle.labels.proofs.Fields.{place-order, place-within, byte-fits}
+use Rattle.fields.proofs.Fields.{place-order, place-within, byte-fits}
 use Rattle.labels.proofs.Names.{star-none, star-zero, star-cut, star-one, star-two, star-only}
 use Rattle.labels.proofs.is_star.Statement.{statement}
 use Rattle.labels.proofs.is_star.Tie as tie

@@ -1,6 +1,5 @@
 -- `both` meets its contract: of two numbers that are 0 or 1, the bits of either are their larger. Assumes nothing.
 use mathlib.Core.Path.{_≡_}
-use lib.Bits.{bitOr}
 use Prim.Native.Nat.{_≤_}
 use Rattle.merge.proofs.Merging.{gaps-at-most, both-told}
 use Rattle.merge.proofs.both.Statement.{statement}

@@ -1,5 +1,4 @@
 -- `merge_non_overlapping_timeseries` meets its contract: each return is an outcome, with what the tests found. Assumes nothing.
-use mathlib.Core.Path.{sym}
 use native.Mathlib.Omega.{arith}
 use denote.Ref.{now}
 use borrow.Author.Needs.{needs}

@@ -1,5 +1,4 @@
 -- `merges` meets its contract. Assumes nothing.
-use native.Mathlib.Omega.{arith}
 use borrow.Author.Needs.{needs}
 use Rattle.merge.proofs.Merging.{short-unmerged, long-merged}
 use Rattle.merge.proofs.merges.Statement.{statement}

@@ -3,8 +3,8 @@ use borrow.Author.Needs.{needs}
 use mathlib.Core.Path.{_≡_}
 use lib.ListN.{drop}
 use Rattle.model.specs.Labels.{valueOf}
-use Rattle.metric_name.specs.Lenient.{tagsUpTo, labelsOf}
-use Rattle.metric_name.proofs.Cursors.{key-order, key-within, next-fewer}
+use Rattle.record_tags.specs.Lenient.{tagsUpTo, labelsOf}
+use Rattle.record_tags.proofs.Cursors.{key-order, key-within, next-fewer}
 use Rattle.metric_name.proofs.Lookups.{find-start, find-end, find-hit, find-turn, value-room}
 use Rattle.metric_name.proofs.find_tag.Statement.{statement}
 use Rattle.metric_name.proofs.find_tag.Tie as tie

@@ -1,7 +1,11 @@
 -- Laws of lists: what passes a test, what each element gives, what holds of each. Assumes nothing.
-use mathlib.Core.Path.{_≡_, refl}
+use Prim.Native.Nat.{ℕ, suc, _+_, _≤_}
+use mathlib.Core.Path.{_≡_, refl, sym}
 use mathlib.Core.Bool.{Bool, true}
 use mathlib.Core.List.{List, [], _∷_, _++_, map, append-assoc}
+use native.Mathlib.Omega.{arith}
+use lib.ListN.{length, take, set}
+use lib.Seq.{sets, length-take-le}
 use Rattle.model.specs.Lists.{cases, keep, All, gather}
 
 module _ {A : Type 0} where
@@ -106,3 +110,12 @@ module _ {A : Type 0} where
 pub All-gather : {A B : Type 0} (P : B → Type 0) (f : A → List B) (xs : List A) → All (λ x. All P (f x)) xs → All P (gather f xs)
 All-gather P f [] a = tt
 All-gather P f (x ∷ xs) a = All-append P (f x) (gather f xs) (a .0) (All-gather P f xs (a .1))
+
+-- numbers: a front has its length, and what is stored one behind another may be stored in two goes
+
+pub front-long : (n : ℕ) (l : List ℕ) → n ≤ length l → n ≡ length (take n l)
+front-long n l h = sym (length-take-le n l h)
+
+pub sets-append : (l : List ℕ) (i : ℕ) (xs ys : List ℕ) → sets l i (xs ++ ys) ≡ sets (sets l i xs) (i + length xs) ys
+sets-append l i [] ys = let e : i + 0 ≡ i = omega arith in rw e
+sets-append l i (x ∷ xs) ys = let e : i + suc (length xs) ≡ suc i + length xs = omega arith in rw e (sets-append (set l i x) (suc i) xs ys)

@@ -46,7 +46,7 @@ pub record NamesAre (n : ℕ) (s : List ℕ) (ns : Names) (rest : List ℕ) : Ty
   pub each : All (λ x. isEmpty x ≡ false) ns
   pub bytes : s ≡ encodeNames ns ++ rest
 
-not-listed : {X : Type 0} (ns : Names) (rest : List ℕ) → notListed ≡ listed ns rest → X
+pub not-listed : {X : Type 0} (ns : Names) (rest : List ℕ) → notListed ≡ listed ns rest → X
 not-listed ns rest e = absurd (let z : _≡_ {A = ℕ} 0 1 = cc in omega arith)
 
 pub names-are : (n : ℕ) (s : List ℕ) (ns : Names) (rest : List ℕ) → namesIn n s ≡ listed ns rest → NamesAre n s ns rest

@@ -6,10 +6,10 @@ use mathlib.Core.Option.{Option, none, some}
 use mathlib.Core.List.{List, [], _∷_}
 use native.Mathlib.Omega.{arith}
 use Rattle.model.specs.Lists.{cases, keep, All}
-use Rattle.model.specs.Labels.{Tag, Labels, sameBytes, below, nameLabel, mayFollow, ascending, valueOf, WellFormed}
+use Rattle.model.specs.Labels.{Tag, Labels, sameBytes, below, nameLabel, ascending, valueOf, WellFormed}
 use Rattle.model.specs.Edits.{Names, isListed, insertTag, withoutTag, setOrRemove, setLabel, setListed, copyTags, star, isStar, setTags}
 use Rattle.model.specs.Laws.Lists.{All-map}
-use Rattle.model.specs.Laws.Booleans.{never, both-of, both-so}
+use Rattle.model.specs.Laws.Booleans.{never, both-of}
 use Rattle.model.specs.Laws.Order.{same-is, is-same, below-other, value-before, value-none, value-here, value-later, ascending-tail, ascending-cons, may-follow, keep-ascending}
 use Rattle.model.specs.Laws.Tags.{SameValues, tags-equal}
 use Rattle.model.specs.Laws.Edits.{set-tags-well}
@@ -42,6 +42,10 @@ abbrev pub setFrom : Names → Names → List Tag → List Tag
 setFrom joinLabels skip source = keep (λ t. isSet joinLabels skip (t .key)) source
 
 -- how `mergeTags` goes
+
+pub nil-merge : (ys : List Tag) → mergeTags [] ys ≡ ys
+unfolding mergeTags
+nil-merge ys = refl
 
 pub merge-nil : (xs : List Tag) → mergeTags xs [] ≡ xs
 unfolding mergeTags

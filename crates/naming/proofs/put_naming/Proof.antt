@@ -1,6 +1,6 @@
 -- `naming::put_naming` meets its contract. Assumes nothing.
 use borrow.Author.Needs.{needs}
-use Rattle.naming.proofs.Names.{nobody-room, many-room, source-room, nobody-put, many-put, source-put}
+use Rattle.naming.proofs.Names.{many-room, source-room, nobody-put, many-put, source-put}
 use Rattle.naming.proofs.put_naming.Statement.{statement}
 use Rattle.naming.proofs.put_naming.Tie as tie
 

@@ -1,7 +1,7 @@
 -- `check_at` meets its contract. Assumes nothing.
 use Rattle.pairs.proofs.Pairing.{pair-left, pair-right}
 use Rattle.pair_checks.proofs.Checks.{at-pair, at-none}
-use Rattle.key_ends.specs.Codes.{code-at}
+use Rattle.end_codes.specs.Codes.{code-at}
 use borrow.Author.Needs.{needs}
 use Rattle.pair_checks.proofs.check_at.Statement.{statement}
 use Rattle.pair_checks.proofs.check_at.Tie as tie

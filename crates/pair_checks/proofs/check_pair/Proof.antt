@@ -1,6 +1,6 @@
 -- `check_pair` meets its contract. Assumes nothing.
 use Rattle.pair_checks.proofs.Checks.{check-left, check-right, check-fine}
-use Rattle.key_ends.specs.Codes.{left-ends, right-ends}
+use Rattle.end_codes.specs.Codes.{left-ends, right-ends}
 use borrow.Author.Needs.{needs}
 use Rattle.pair_checks.proofs.check_pair.Statement.{statement}
 use Rattle.pair_checks.proofs.check_pair.Tie as tie

@@ -2,10 +2,10 @@
 use Prim.Native.Nat.{_-_}
 use lib.ListN.{length}
 use Rattle.model.specs.Record.{encode}
-use Rattle.timeseries.specs.Sides.{labelsIn}
-use Rattle.answers.proofs.Writing.{Writing}
-use Rattle.pair_labels.specs.Edits.{queryBy, pairLabels}
-use Rattle.pair_labels.proofs.Records.{row-place, row-order, row-label-room, row-label-put, labels-start, labels-end}
+use Rattle.side_parts.specs.Sides.{labelsIn}
+use Rattle.answers.proofs.Writing.{Writing, writing-starts, records-put}
+use Rattle.adjusted_labels.specs.Edits.{queryBy, pairLabels}
+use Rattle.pair_labels.proofs.Records.{row-place, row-order, row-label-room, row-label-put}
 use borrow.Author.Needs.{needs}
 use native.Mathlib.Omega.{arith}
 use Rattle.pair_labels.proofs.put_pair_labels.Statement.{statement}
@@ -23,7 +23,7 @@ put-pair-labels-spec =
     (tie.spec
     Inv-loop
     μ-loop
-    (λ c. search labels-start)
+    (λ c. search writing-starts)
     (λ c. search needs)
     (λ c. omega arith)
     (λ c κs. (search needs, search row-place))
@@ -32,4 +32,4 @@ put-pair-labels-spec =
     (λ c. omega arith)
     (λ c. let l = c .before .before .before .before .before .before .before in let a = c .before .before in let s = l .before .before .before .before .before .before in row-label-put _ _ _ (s .pre .0) (s .pre .1 .0) _ (search needs) _ (a .before .before .«record» .ensures) (queryBy (s .args .names .now) (s .args .q)) _ _ _ (l .loop .inv) _ _ (a .adjust-binary-op-tags .ensures))
     (λ c. search needs)
-    (λ c. search labels-end))
+    (λ c. search records-put))

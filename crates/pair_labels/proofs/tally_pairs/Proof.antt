@@ -1,10 +1,10 @@
 -- `tally_pairs` meets its contract. Assumes nothing.
 use Prim.Native.Nat.{_-_}
 use lib.ListN.{length}
-use Rattle.timeseries.specs.Sides.{labelsIn}
-use Rattle.answers.proofs.Tallies.{Tallying, tally-ends}
-use Rattle.pair_labels.specs.Edits.{queryBy, pairLabels}
-use Rattle.pair_labels.proofs.Records.{row-place, row-order, row-tally-room, row-tallied, tally-begin}
+use Rattle.side_parts.specs.Sides.{labelsIn}
+use Rattle.answers.proofs.Tallies.{Tallying, tally-starts, tally-ends}
+use Rattle.adjusted_labels.specs.Edits.{queryBy, pairLabels}
+use Rattle.pair_labels.proofs.Records.{row-place, row-order, row-tally-room, row-tallied}
 use borrow.Author.Needs.{needs}
 use native.Mathlib.Omega.{arith}
 use Rattle.pair_labels.proofs.tally_pairs.Statement.{statement}
@@ -22,7 +22,7 @@ tally-pairs-spec =
     (tie.spec
     Inv-loop
     μ-loop
-    (λ c. search tally-begin)
+    (λ c. search tally-starts)
     (λ c. search needs)
     (λ c. omega arith)
     (λ c κs. (search needs, search row-place))

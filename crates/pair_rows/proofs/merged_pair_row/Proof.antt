@@ -1,5 +1,5 @@
 -- `merged_pair_row` meets its contract. Assumes nothing.
-use Rattle.key_ends.specs.Codes.{left-ends, right-ends}
+use Rattle.end_codes.specs.Codes.{left-ends, right-ends}
 use Rattle.pair_rows.proofs.Rows.{code-several, work-room, work-merges, work-merged, with-merged-left}
 use borrow.Author.Needs.{needs}
 use Rattle.pair_rows.proofs.merged_pair_row.Statement.{statement}

@@ -1,7 +1,7 @@
 -- `pair_row` meets its contract. Assumes nothing.
 use mathlib.Core.Path.{sym}
 use lib.Seq.{length-take-le}
-use Rattle.key_ends.specs.Codes.{right-ends}
+use Rattle.end_codes.specs.Codes.{right-ends}
 use Rattle.pair_rows.proofs.Rows.{several-coded, coded-room, coded-wide, coded-single}
 use borrow.Author.Needs.{needs}
 use Rattle.pair_rows.proofs.pair_row.Statement.{statement}

@@ -1,10 +1,10 @@
 -- `put_pair_rows` meets its contract. Assumes nothing.
 use Prim.Native.Nat.{_-_}
 use lib.ListN.{length}
-use Rattle.answers.proofs.Rows.{RowsWriting, row-within, rows-length, rows-end}
+use Rattle.answers.proofs.Rows.{RowsWriting, from-fits, to-fits, bytes-fit, row-within, rows-length, rows-end}
 use Rattle.pairs.specs.Pairing.{sidesOf}
 use Rattle.pair_rows.specs.Rows.{pairedRow}
-use Rattle.pair_rows.proofs.Parts.{from-fits, to-fits, bytes-fit, listed-in, listed-fits, listed-code, parts-start, part-paired, parts-turn}
+use Rattle.pair_rows.proofs.Parts.{listed-in, listed-fits, listed-code, parts-start, part-paired, parts-turn}
 use borrow.Author.Needs.{needs}
 use Rattle.pair_rows.proofs.put_pair_rows.Statement.{statement}
 use Rattle.pair_rows.proofs.put_pair_rows.Tie as tie

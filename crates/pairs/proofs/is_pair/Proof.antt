@@ -1,6 +1,6 @@
 -- `is_pair` meets its contract. Assumes nothing.
 use Rattle.pairs.proofs.Pairing.{pair-dropped, pair-later, pair-told}
-use Rattle.key_ends.specs.Codes.{code-at}
+use Rattle.end_codes.specs.Codes.{code-at}
 use borrow.Author.Needs.{needs}
 use Rattle.pairs.proofs.is_pair.Statement.{statement}
 use Rattle.pairs.proofs.is_pair.Tie as tie

@@ -1,6 +1,6 @@
 -- `list_pair` meets its contract. Assumes nothing.
 use Rattle.pairs.proofs.Lists.{list-one, list-none}
-use Rattle.key_ends.specs.Codes.{code-at}
+use Rattle.end_codes.specs.Codes.{code-at}
 use borrow.Author.Needs.{needs}
 use Rattle.pairs.proofs.list_pair.Statement.{statement}
 use Rattle.pairs.proofs.list_pair.Tie as tie

@@ -45,14 +45,6 @@ pub is-so : (t : Bool) → false ≡ not t → t ≡ true
 is-so true e = refl
 is-so false e = e
 
-pub nil-right : {A : Type 0} (xs : List A) → xs ++ [] ≡ xs
-nil-right [] = refl
-nil-right (x ∷ xs) = ap (λ l. x ∷ l) (nil-right xs)
-
-pub map-append : {A B : Type 0} (f : A → B) (xs ys : List A) → map f (xs ++ ys) ≡ map f xs ++ map f ys
-map-append f [] ys = refl
-map-append f (x ∷ xs) ys = ap (λ l. f x ∷ l) (map-append f xs ys)
-
 pub or-none : (o : Option Duplicate) → orElse o none ≡ o
 or-none none = refl
 or-none (some d) = refl

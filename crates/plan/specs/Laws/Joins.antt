@@ -3,19 +3,20 @@ use Prim.Native.Nat.{ℕ, zero, suc, _+_, _/_, _%_, _<_, _≤_}
 use mathlib.Core.Path.{_≡_, refl, sym, ap, _∙_, subst}
 use mathlib.Core.Bool.{Bool, true, false, cond, _&&_}
 use mathlib.Core.Option.{Option, none, some}
-use mathlib.Core.List.{List, [], _∷_, _++_, map}
+use mathlib.Core.List.{List, [], _∷_, _++_, map, append-nil}
 use native.Mathlib.Omega.{arith}
 use lib.Dec.{eqb}
 use lib.ListN.{length, getD, drop}
 use borrow.Author.Tests.{eqb-true, eq-eqb, ne-eqb}
 use Rattle.operator.specs.Kinds.{Arithmetic, Comparison, arithmetic, comparison, kindOf}
 use Rattle.model.specs.Lists.{cases, keep, gather}
-use Rattle.model.specs.Laws.Lists.{gather-append, gather-map, keep-map}
+use Rattle.model.specs.Laws.Lists.{gather-append, gather-map, keep-map, map-append}
 use Rattle.model.specs.Laws.Booleans.{never, both-of}
 use Rattle.model.specs.Laws.Tags.{same-tags-is, is-same-tags}
 use Rattle.model.specs.Labels.{Labels, sameTags}
 use Rattle.model.specs.Query.{Query, group, Side, left, right}
 use Rattle.model.specs.Vector.{Series, Shape, readingsOf}
+use Rattle.semantics.specs.Laws.Places.{on-same}
 use Rattle.semantics.specs.Places.{Place, Placed, Rank, numbered, placed, alongside}
 use Rattle.semantics.specs.Events.{Duplicate, Event, Ranked, mark, Rule, ofKey, emission, events, settle}
 use Rattle.semantics.specs.Rules as Rules
@@ -30,7 +31,7 @@ use Rattle.plan.specs.Joins.{JoinSides, sameEditedBy, leadOf, leadsAmong
 use Rattle.plan.specs.Laws.Settling.{firstClash, goodSeries, clash-append, good-append, firstOver, first-append, clash-gather, good-gather, clash-produced, good-produced, settled-concludes}
 use Rattle.plan.specs.Laws.Keyed.{Sees, EachSees, Numbers, kept-lefts, kept-rights, all-lefts, all-rights}
 use Rattle.plan.specs.Laws.Merging.{RowsAt, RowsAt-drop, mergedAs, row-at, absorbed-group, absorbed-relabelled}
-use Rattle.plan.specs.Laws.Common.{noSeries, labelsOfSide, getD-labels, labels-length, eqb-sym, zero-plus, not-so, is-so, nil-right, map-append, or-none, both-none, From, from-all, from-next, from-here}
+use Rattle.plan.specs.Laws.Common.{noSeries, labelsOfSide, getD-labels, labels-length, eqb-sym, zero-plus, not-so, is-so, or-none, both-none, From, from-all, from-next, from-here}
 
 -- being edited alike is an equivalence
 
@@ -51,11 +52,11 @@ module _ (q : Query) (m : Labels) where
   unfolding sameEditedBy
   alike-test a b c h = ap (sameTags (joinedLabels q m c .tags)) (alike-is a b h)
 
-  alike-refl : (a : Labels) → sameEditedBy q m a a ≡ true
+  pub alike-refl : (a : Labels) → sameEditedBy q m a a ≡ true
   alike-refl a = is-alike a a refl
 
   module _ (k : ℕ) where
-    lead-cong : (a b : Labels) → sameEditedBy q m a b ≡ true → (i : ℕ) (ks : List ℕ) (ls : List Labels) → leadOf q m k a i ks ls ≡ leadOf q m k b i ks ls
+    pub lead-cong : (a b : Labels) → sameEditedBy q m a b ≡ true → (i : ℕ) (ks : List ℕ) (ls : List Labels) → leadOf q m k a i ks ls ≡ leadOf q m k b i ks ls
     unfolding leadOf
     lead-cong a b h i [] ls = refl
     lead-cong a b h i (x ∷ ks) [] = refl
@@ -197,12 +198,12 @@ module _ (q : Query) (m : Labels) (k : ℕ) (side : Side) (c : Labels) where
 one-of : (r : Place) (side : Side) (o : ℕ) (l : Labels) (work : Series → Series) (u : RowMerge)
     → firstClash (mark r (worked work (mergedAs (record { side = side; number = o }) l side u))) ≡ clash side o u
 one-of r side o l work (row d) = refl
-one-of r side o l work (failedAt j) = refl
+one-of r side o l work (failedAt j d) = refl
 
 good-of : (r : Place) (side : Side) (o : ℕ) (l : Labels) (work : Series → Series) (u : RowMerge) → clash side o u ≡ none
     → goodSeries (mark r (worked work (mergedAs (record { side = side; number = o }) l side u))) ≡ work (record { labels = l; row = rowOf u }) ∷ []
 good-of r side o l work (row d) h = refl
-good-of r side o l work (failedAt j) h = absurd (let z : _≡_ {A = ℕ} 0 1 = cc in omega arith)
+good-of r side o l work (failedAt j d) h = absurd (let z : _≡_ {A = ℕ} 0 1 = cc in omega arith)
 
 same-side : (s : Side) (t : Bool) → alongside s s t ≡ t
 same-side left t = refl
@@ -498,10 +499,6 @@ module _ (q : Query) (many : Side) (p : ℕ) (bs : List Series) (mk : List ℕ) 
   abbrev rule : Rule
   rule = joined (allowedOverlaps q) (joinedPair q) (joinWork q many) many
 
-  on-same : (s : Side) → onSide s s ≡ true
-  on-same left = refl
-  on-same right = refl
-
   groups-are : (b : Series) (k : ℕ) → groups (allowedOverlaps q) (joinWork q many b) (pairs (joinedPair q) b (keyed (other many) k 0 ok os)) ≡ gather (emitsAt q many p os ok same few rowsOne b k) (keyed (other many) k 0 ok os)
   unfolding groups
   groups-are b k = gather-map (λ c. mark (c .place) (groupOf (allowedOverlaps q) (joinWork q many b) (pairs (joinedPair q) b (keyed (other many) k 0 ok os)) c)) (λ x. record { place = x .place; series = joinedPair q b (x .series) }) (keyed (other many) k 0 ok os)
@@ -595,7 +592,7 @@ module _ (q : Query) (many : Side) (p : ℕ) (bs : List Series) (mk : List ℕ) 
               ∙ rw (manys-clash f 0 (λ i. i) bs mk (λ j. omega arith) each, silent-clash f s silent (λ i. i) cs) (or-none (joinClash q many sides mk (labelsOfSide bs)));
           answers = λ n.
               good-gather f (numbered many (λ i. i) bs ++ numbered s (λ i. i) cs) ∙ gather-append (λ x. goodSeries (f x)) (numbered many (λ i. i) bs) (numbered s (λ i. i) cs)
-              ∙ rw (manys-good f 0 (λ i. i) bs mk (λ j. omega arith) each n, silent-good f s silent (λ i. i) cs) (nil-right (map (joinSeries q many sides) (joinRowsFrom q sides 0 mk (labelsOfSide bs))));
+              ∙ rw (manys-good f 0 (λ i. i) bs mk (λ j. omega arith) each n, silent-good f s silent (λ i. i) cs) (append-nil (map (joinSeries q many sides) (joinRowsFrom q sides 0 mk (labelsOfSide bs))));
         }
 
     many-last : (cs : List Series) → Emits (numbered s (λ i. i) cs ++ numbered many (λ i. i) bs) f

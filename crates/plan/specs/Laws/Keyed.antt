@@ -2,18 +2,18 @@
 use Prim.Native.Nat.{ℕ, zero, suc, _+_}
 use mathlib.Core.Path.{_≡_, refl, ap, _∙_}
 use mathlib.Core.Bool.{Bool, true, false, not, _&&_}
-use mathlib.Core.List.{List, [], _∷_}
+use mathlib.Core.List.{List, [], _∷_, append-nil}
 use native.Mathlib.Omega.{arith}
 use lib.Dec.{eqb}
 use Rattle.model.specs.Lists.{cases, keep}
 use Rattle.model.specs.Laws.Lists.{keep-append, keep-cong, All-each}
 use Rattle.model.specs.Query.{Query, Side, left, right, sameKey}
 use Rattle.model.specs.Vector.{Series}
+use Rattle.semantics.specs.Laws.Places.{on-same}
 use Rattle.semantics.specs.Places.{Placed, numbered, placed}
 use Rattle.semantics.specs.Events.{ofKey}
 use Rattle.semantics.specs.Rules.{onSide, ofSide, hasReadings}
 use Rattle.plan.specs.Keys.{dropped, keyed}
-use Rattle.plan.specs.Laws.Common.{nil-right}
 
 -- a test of series told by their numbers: it holds just where the number is k
 abbrev pub Told : (Series → Bool) → ℕ → List ℕ → List Series → Type 0
@@ -45,10 +45,6 @@ keep-both p q (x ∷ xs) =
     (λ e. cases (p x) (λ f. rw (e, f, keep-both p q xs)) (λ f. rw (e, f, keep-both p q xs)))
     (λ e. rw (e, keep-both p q xs))
 
-on-same : (s : Side) → onSide s s ≡ true
-on-same left = refl
-on-same right = refl
-
 side-all : (s : Side) (p : Placed → Bool) (g : ℕ → ℕ) (bs : List Series) → ofSide s (keep p (numbered s g bs)) ≡ keep p (numbered s g bs)
 side-all s p g [] = refl
 side-all s p g (b ∷ bs) =
@@ -69,7 +65,7 @@ module _ (ls rs : List Series) (p : Placed → Bool) where
   lefts-of =
       ap (ofSide left) (keep-append p (numbered left (λ i. i) ls) (numbered right (λ i. i) rs))
       ∙ keep-append (λ x. onSide left (x .place .side)) (keep p (numbered left (λ i. i) ls)) (keep p (numbered right (λ i. i) rs))
-      ∙ rw (side-all left p (λ i. i) ls, side-none left right refl p (λ i. i) rs) (nil-right (keep p (numbered left (λ i. i) ls)))
+      ∙ rw (side-all left p (λ i. i) ls, side-none left right refl p (λ i. i) rs) (append-nil (keep p (numbered left (λ i. i) ls)))
 
   rights-of : ofSide right (keep p (placed ls rs)) ≡ keep p (numbered right (λ i. i) rs)
   rights-of =

@@ -52,7 +52,7 @@ RowsAt-drop p rows i (suc n) (b ∷ bs) r = let z : suc i + n ≡ i + suc n = om
 -- what merges into labels come to
 abbrev pub mergedAs : Place → Labels → Side → RowMerge → Merged
 mergedAs k l side (row d) = one (record { labels = l; row = d })
-mergedAs k l side (failedAt j) = Rules.clash (record { kept = k; failed = record { side = side; number = j } })
+mergedAs k l side (failedAt j d) = Rules.clash (record { kept = k; failed = record { side = side; number = j } })
 
 module _ (allowance p : ℕ) (rows : List ℕ) (side : Side) (g : ℕ) (k : Placed) where
   -- series of a group absorbed are their rows merged
@@ -77,7 +77,7 @@ module _ (allowance p : ℕ) (rows : List ℕ) (side : Side) (g : ℕ) (k : Plac
       go : ((d : Series) → absorbed allowance k d (keyed side g (suc i) gs bs) ≡ mergedAs (k .place) (d .labels) side (mergeGroup allowance p rows g (suc i) gs (d .row)))
           → (o : Option (List ℕ))
           → onMerged (withRow b o) refusal (λ d. absorbed allowance k d (keyed side g (suc i) gs bs))
-          ≡ mergedAs (k .place) (b .labels) side (onRow o (failedAt i) (mergeGroup allowance p rows g (suc i) gs))
+          ≡ mergedAs (k .place) (b .labels) side (onRow o (failedAt i (b .row)) (mergeGroup allowance p rows g (suc i) gs))
       go ih none = refl
       go ih (some d) = ih (record { labels = b .labels; row = d })
 
@@ -252,7 +252,7 @@ merged-last allowance p rows side k ks bs e r y ys h =
 -- the row that merges come to is as wide as the row merged into
 abbrev pub WideAs : ℕ → RowMerge → Type 0
 WideAs w (row d) = length d ≡ w
-WideAs w (failedAt i) = Unit {0}
+WideAs w (failedAt i d) = Unit {0}
 
 module _ (allowance p : ℕ) (rows : List ℕ) (w : ℕ) where
   group-wide : (g : ℕ) (groups : List ℕ) (i : ℕ) (d : List ℕ) → length d ≡ w → WideAs w (mergeGroup allowance p rows g i groups d)
@@ -260,7 +260,7 @@ module _ (allowance p : ℕ) (rows : List ℕ) (w : ℕ) where
   group-wide g [] i d h = h
   group-wide g (x ∷ groups) i d h = go (λ e k. group-wide g groups (suc i) e k) (eqb x g) (leb (length d) 2 || ltb allowance (overlaps d (rowAt p rows i)))
     where
-      go : ((e : List ℕ) → length e ≡ w → WideAs w (mergeGroup allowance p rows g (suc i) groups e)) → (b c : Bool) → WideAs w (cond b (onRow (cond c none (some (overwritten d (rowAt p rows i)))) (failedAt i) (mergeGroup allowance p rows g (suc i) groups)) (mergeGroup allowance p rows g (suc i) groups d))
+      go : ((e : List ℕ) → length e ≡ w → WideAs w (mergeGroup allowance p rows g (suc i) groups e)) → (b c : Bool) → WideAs w (cond b (onRow (cond c none (some (overwritten d (rowAt p rows i)))) (failedAt i d) (mergeGroup allowance p rows g (suc i) groups)) (mergeGroup allowance p rows g (suc i) groups d))
       go ih false c = ih d h
       go ih true true = tt
       go ih true false = ih (overwritten d (rowAt p rows i)) (overwritten-wide d (rowAt p rows i) ∙ h)

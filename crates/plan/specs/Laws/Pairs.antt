@@ -3,7 +3,7 @@ use Prim.Native.Nat.{ℕ, zero, suc, _+_, _<_}
 use mathlib.Core.Path.{_≡_, refl, sym, ap, _∙_}
 use mathlib.Core.Bool.{Bool, true, false, not, cond, _&&_}
 use mathlib.Core.Option.{Option, none, some}
-use mathlib.Core.List.{List, [], _∷_, _++_, map}
+use mathlib.Core.List.{List, [], _∷_, _++_, map, append-nil}
 use native.Mathlib.Omega.{arith}
 use lib.Dec.{eqb, ltb}
 use lib.ListN.{length, getD}
@@ -24,7 +24,7 @@ use Rattle.plan.specs.Keys.{dropped, firstOf, lastOf, keyed}
 use Rattle.plan.specs.Merging.{RowMerge, row, failedAt, mergeLast, rowOf, clash}
 use Rattle.plan.specs.Conclude.{orElse, conclude}
 use Rattle.plan.specs.Pairs.{isPair, Sides, pairClash, pairsClash, pairsFrom, pairRow, pairSeries}
-use Rattle.plan.specs.Laws.Common.{noSeries, labelsOfSide, getD-labels, eqb-sym, zero-plus, not-so, is-so, nil-right, or-none, both-none}
+use Rattle.plan.specs.Laws.Common.{noSeries, labelsOfSide, getD-labels, eqb-sym, zero-plus, not-so, is-so, or-none, both-none}
 use Rattle.plan.specs.Laws.Settling.{firstClash, goodSeries, firstOver, first-append, clash-gather, good-gather, clash-produced, good-produced, settled-concludes}
 use Rattle.plan.specs.Laws.Keyed.{Sees, EachSees, Numbers, kept-lefts, kept-rights, all-lefts, all-rights}
 use Rattle.plan.specs.Laws.Merging.{RowsAt, mergedAs, last-of, first-of, first-none, merged-last}
@@ -36,17 +36,17 @@ module _ (q : Query) (r : Place) (kept kept′ : ℕ) (l l′ : Labels) where
       → firstClash (mark r (both (paired q) (mergedAs (record { side = left; number = kept }) l left u) (mergedAs (record { side = right; number = kept′ }) l′ right v)))
       ≡ orElse (clash left kept u) (clash right kept′ v)
   both-clash (row d) (row e) = refl
-  both-clash (row d) (failedAt j) = refl
-  both-clash (failedAt i) (row e) = refl
-  both-clash (failedAt i) (failedAt j) = refl
+  both-clash (row d) (failedAt j y) = refl
+  both-clash (failedAt i x) (row e) = refl
+  both-clash (failedAt i x) (failedAt j y) = refl
 
   both-good : (u v : RowMerge) → orElse (clash left kept u) (clash right kept′ v) ≡ none
       → goodSeries (mark r (both (paired q) (mergedAs (record { side = left; number = kept }) l left u) (mergedAs (record { side = right; number = kept′ }) l′ right v)))
       ≡ paired q (record { labels = l; row = rowOf u }) (record { labels = l′; row = rowOf v }) ∷ []
   both-good (row d) (row e) h = refl
-  both-good (row d) (failedAt j) h = absurd (let z : _≡_ {A = ℕ} 0 1 = cc in omega arith)
-  both-good (failedAt i) (row e) h = absurd (let z : _≡_ {A = ℕ} 0 1 = cc in omega arith)
-  both-good (failedAt i) (failedAt j) h = absurd (let z : _≡_ {A = ℕ} 0 1 = cc in omega arith)
+  both-good (row d) (failedAt j y) h = absurd (let z : _≡_ {A = ℕ} 0 1 = cc in omega arith)
+  both-good (failedAt i x) (row e) h = absurd (let z : _≡_ {A = ℕ} 0 1 = cc in omega arith)
+  both-good (failedAt i x) (failedAt j y) h = absurd (let z : _≡_ {A = ℕ} 0 1 = cc in omega arith)
 
 no-rest : (t u : Bool) {A : Type 0} (x y : A) → cond (t && (u && false)) x y ≡ y
 no-rest true true x y = refl
@@ -189,7 +189,7 @@ module _ (q : Query) (p : ℕ) (ls rs : List Series) (ks ms : List ℕ) (sameLef
     call-good : EachPair f 0 ls ks → pairsClash allowed sides 0 ks ≡ none → goodSeries (gather f (placed ls rs)) ≡ map (pairSeries q sides (labelsOfSide ls)) (pairsFrom ks ms 0 ks)
     call-good e n =
         good-gather f (placed ls rs) ∙ gather-append (λ x. goodSeries (f x)) (numbered left (λ i. i) ls) (numbered right (λ i. i) rs)
-        ∙ rw (lefts-good f 0 (λ i. i) ls ks (λ j. omega arith) e n, rights-good (λ i. i) rs) (nil-right (map (pairSeries q sides (labelsOfSide ls)) (pairsFrom ks ms 0 ks)))
+        ∙ rw (lefts-good f 0 (λ i. i) ls ks (λ j. omega arith) e n, rights-good (λ i. i) rs) (append-nil (map (pairSeries q sides (labelsOfSide ls)) (pairsFrom ks ms 0 ks)))
 
     call-concludes : (labelRoom room : ℕ) (shape : Shape) → EachPair f 0 ls ks
         → concluded labelRoom room shape (settle (gather f (placed ls rs)))

@@ -11,7 +11,7 @@ use lib.Seq.{getD-take, getD-drop}
 use borrow.Author.Tests.{eq-eqb, ne-eqb, lt-ltb, le-ltb}
 use Rattle.operator.specs.Kinds.{SetRule, whereFound, whereNone, filled, setRule, fallback, kindOf}
 use Rattle.model.specs.Lists.{cases, All, isEmpty, gather}
-use Rattle.model.specs.Laws.Lists.{gather-append}
+use Rattle.model.specs.Laws.Lists.{gather-append, map-append}
 use Rattle.model.specs.Reading.{missing, noReading}
 use Rattle.model.specs.Row.{onlyMissing}
 use Rattle.model.specs.Query.{Query, Side, left, right}
@@ -29,7 +29,7 @@ use Rattle.plan.specs.Sets.{SetSides, placesOf, metPlaces, firstAt, setP
 use Rattle.plan.specs.Laws.Settling.{firstClash, goodSeries, firstOver, first-append, clash-gather, good-gather, clash-produced, good-produced, settled-concludes}
 use Rattle.plan.specs.Laws.Keyed.{Sees, EachSees, Numbers, all-lefts, all-rights}
 use Rattle.plan.specs.Laws.Merging.{RowsAt, row-at, first-of, first-none}
-use Rattle.plan.specs.Laws.Common.{noSeries, labelsOfSide, getD-labels, zero-plus, map-append, From, from-all, from-next, from-here}
+use Rattle.plan.specs.Laws.Common.{noSeries, labelsOfSide, getD-labels, zero-plus, From, from-all, from-next, from-here}
 
 -- right series by their places in one array
 

@@ -1,6 +1,5 @@
 -- `binary_op_and` meets its contract. Assumes nothing.
 use Rattle.set_operators.proofs.Lent.{no-fallback}
-use borrow.Author.Needs.{needs}
 use Rattle.set_operators.proofs.binary_op_and.Statement.{statement}
 use Rattle.set_operators.proofs.binary_op_and.Tie as tie
 

@@ -1,6 +1,5 @@
 -- `binary_op_or` meets its contract. Assumes nothing.
 use Rattle.set_operators.proofs.Lent.{no-fallback}
-use borrow.Author.Needs.{needs}
 use Rattle.set_operators.proofs.binary_op_or.Statement.{statement}
 use Rattle.set_operators.proofs.binary_op_or.Tie as tie
 

@@ -1,8 +1,6 @@
 -- `set_tags::edited_size` meets its contract. Assumes nothing.
 use borrow.Author.Needs.{needs}
 use Rattle.labels.specs.Names.{namesOf}
-use Rattle.signature.specs.Keys.{hashOf}
-use Rattle.model.specs.Labels.{sameTags}
 use Prim.Native.Nat.{_+_}
 use Rattle.edited_tags.specs.Streams.{editedTags}
 use Rattle.edited_tags.proofs.Found.{edit-order, edit-fewer}

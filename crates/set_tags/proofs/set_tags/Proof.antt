@@ -1,6 +1,6 @@
 -- `set_tags::set_tags` meets its contract. Assumes nothing.
 use borrow.Author.Needs.{needs}
-use Rattle.label_edits.proofs.Puts.{record-name-room, record-count-room, record-tags-room, record-put}
+use Rattle.kept_labels.proofs.Puts.{record-name-room, record-count-room, record-tags-room, record-put}
 use Rattle.set_tags.proofs.Sizes.{few-fits}
 use Rattle.set_tags.proofs.set_tags.Statement.{statement}
 use Rattle.set_tags.proofs.set_tags.Tie as tie

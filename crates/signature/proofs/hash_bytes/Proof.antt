@@ -3,8 +3,8 @@ use borrow.Author.Needs.{needs}
 use Prim.Native.Nat.{_≤_, _-_}
 use mathlib.Core.Path.{_≡_}
 use lib.ListN.{length, drop}
-use Rattle.signature.specs.Keys.{hashBytes}
-use Rattle.signature.proofs.Keys.{hash-turn, hash-end}
+use Rattle.chosen_tags.specs.Keys.{hashBytes}
+use Rattle.chosen_tags.proofs.Keys.{hash-turn, hash-end}
 use Rattle.signature.proofs.hash_bytes.Statement.{statement}
 use Rattle.signature.proofs.hash_bytes.Tie as tie
 

@@ -3,9 +3,9 @@ use borrow.Author.Needs.{needs}
 use Rattle.model.specs.Query.{keyOf}
 use Rattle.labels.specs.Names.{namesOf}
 use Rattle.labels.specs.Matchings.{matchingOf}
-use Rattle.signature.specs.Keys.{recordKey, hashOf}
-use Rattle.metric_name.proofs.Cursors.{span-order, span-within, next-fewer}
-use Rattle.signature.proofs.Keys.{HashLeft, hash-start, hash-done, hash-one}
+use Rattle.chosen_tags.specs.Keys.{recordKey, hashOf}
+use Rattle.record_tags.proofs.Cursors.{span-order, span-within, next-fewer}
+use Rattle.chosen_tags.proofs.Keys.{HashLeft, hash-start, hash-done, hash-one}
 use Rattle.signature.proofs.hash_key.Statement.{statement}
 use Rattle.signature.proofs.hash_key.Tie as tie
 

@@ -1,13 +1,13 @@
 -- `signature::same_key` meets its contract. Assumes nothing.
 use borrow.Author.Needs.{needs}
-use Rattle.signature.proofs.Keys.{SameLeft}
+use Rattle.chosen_tags.proofs.Keys.{SameLeft}
 use Rattle.model.specs.Labels.{sameTags}
 use Rattle.model.specs.Query.{keyOf}
 use Rattle.labels.specs.Names.{namesOf}
 use Rattle.labels.specs.Matchings.{matchingOf}
-use Rattle.signature.specs.Keys.{recordKey}
-use Rattle.metric_name.proofs.Cursors.{span-order, span-within, next-fewer}
-use Rattle.signature.proofs.Keys.{same-start, both-end, first-ends, second-ends, tags-differ, same-turn}
+use Rattle.chosen_tags.specs.Keys.{recordKey}
+use Rattle.record_tags.proofs.Cursors.{span-order, span-within, next-fewer}
+use Rattle.chosen_tags.proofs.Keys.{same-start, both-end, first-ends, second-ends, tags-differ, same-turn}
 use Rattle.signature.proofs.same_key.Statement.{statement}
 use Rattle.signature.proofs.same_key.Tie as tie
 

@@ -1,9 +1,8 @@
 -- `tag_streams::next_set` meets its contract. Assumes nothing.
 use borrow.Author.Needs.{needs}
-use Rattle.model.specs.Laws.SetTags.{isSet, stays, stayingTags, setFrom}
+use Rattle.model.specs.Laws.SetTags.{isSet, setFrom}
 use Rattle.labels.specs.Names.{namesOf}
-use Rattle.metric_name.specs.Lenient.{labelsOf}
-use Rattle.metric_name.proofs.Cursors.{Passed, none-passed, all-passed, one-chosen, one-passed, key-order, key-within, next-fewer}
+use Rattle.record_tags.proofs.Cursors.{Passed, none-passed, all-passed, one-chosen, one-passed, key-order, key-within, next-fewer}
 use Rattle.tag_streams.specs.Sieves.{set-sieve}
 use Rattle.tag_streams.proofs.next_set.Statement.{statement}
 use Rattle.tag_streams.proofs.next_set.Tie as tie

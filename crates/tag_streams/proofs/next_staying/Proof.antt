@@ -1,9 +1,9 @@
 -- `tag_streams::next_staying` meets its contract. Assumes nothing.
 use borrow.Author.Needs.{needs}
-use Rattle.model.specs.Laws.SetTags.{isSet, stays, stayingTags, setFrom}
+use Rattle.model.specs.Laws.SetTags.{stays, stayingTags}
 use Rattle.labels.specs.Names.{namesOf}
-use Rattle.metric_name.specs.Lenient.{labelsOf}
-use Rattle.metric_name.proofs.Cursors.{Passed, none-passed, all-passed, one-chosen, one-passed, key-order, key-within, next-fewer}
+use Rattle.record_tags.specs.Lenient.{labelsOf}
+use Rattle.record_tags.proofs.Cursors.{Passed, none-passed, all-passed, one-chosen, one-passed, key-order, key-within, next-fewer}
 use Rattle.tag_streams.specs.Sieves.{staying-sieve}
 use Rattle.tag_streams.proofs.next_staying.Statement.{statement}
 use Rattle.tag_streams.proofs.next_staying.Tie as tie

@@ -1,16 +1,39 @@
--- `run` is safe, and ends: each query takes at least a byte. Assumes nothing.
-use Prim.Native.Nat.{_-_, _≤_}
-use native.Mathlib.Omega.{arith}
-use lib.ListN.{length, length-take, length-drop}
+-- `test_query::run` meets its contract. Assumes nothing.
 use borrow.Author.Needs.{needs}
+use Prim.Native.Nat.{_-_}
+use lib.ListN.{length}
 use Rattle.test_query.proofs.run.Statement.{statement}
 use Rattle.test_query.proofs.run.Tie as tie
 
 abbrev Inv-loop : tie.InvT-loop
-Inv-loop s at₀ at = at ≤ length s
+Inv-loop s p₀ p = Unit {0}
 
 abbrev μ-loop : tie.MeasureT-loop
-μ-loop s at₀ at = length s - at
+μ-loop s p₀ p = length s - p
+
+loop-holds : tie.Need-loop-holds Inv-loop μ-loop
+loop-holds c = tt
+
+part-at-requires : tie.Need-part-at-requires Inv-loop μ-loop
+part-at-requires c κs = search needs
+
+take-requires : tie.Need-take-requires Inv-loop μ-loop
+take-requires c κs = search needs
+
+add-p : tie.Need-add-p Inv-loop μ-loop
+add-p c = search needs
+
+add-p-2 : tie.Need-add-p-2 Inv-loop μ-loop
+add-p-2 c = search needs
+
+loop-less : tie.Need-loop-less Inv-loop μ-loop
+loop-less c = search needs
+
+loop-again : tie.Need-loop-again Inv-loop μ-loop
+loop-again c = tt
+
+returns : tie.Need-returns Inv-loop μ-loop
+returns c = search needs
 
 pub run-spec : {M : Type 1} → statement M
 run-spec =
@@ -18,13 +41,11 @@ run-spec =
     (tie.spec
     Inv-loop
     μ-loop
-    (λ c. search needs)
-    (λ c. search needs)
-    (λ c. search needs)
-    (λ c. search needs)
-    (λ c κs. search needs)
-    (λ c. search needs)
-    (λ c. let k = c .before .take-one .ensures in omega (arith, simp (length-take, length-drop) at k))
-    (λ c. let k = c .before .take-one .ensures in omega (arith, simp (length-take, length-drop) at k))
-    (λ c. let k = c .before .take-one .ensures in omega (arith, simp (length-take, length-drop) at k))
-    (λ c. search needs))
+    loop-holds
+    part-at-requires
+    take-requires
+    add-p
+    add-p-2
+    loop-less
+    loop-again
+    returns)

@@ -1,5 +1,4 @@
 -- `timeseries::take_vector` meets its contract. Assumes nothing.
-use Prim.Native.Nat.{ℕ}
 use mathlib.Core.Path.{_≡_}
 use borrow.Author.Needs.{needs}
 use Rattle.timeseries.proofs.Taking.{product-fits, take-cut, take-many, take-wide, take-other, take-unread, take-whole, take-record-cut, take-record-bad}

@@ -1,5 +1,4 @@
 -- `vecop_labels::is_special` meets its contract. Assumes nothing.
-use borrow.Author.Needs.{needs}
 use Rattle.vecop_labels.proofs.Bytes.{in-keys, out-of-keys}
 use Rattle.vecop_labels.proofs.is_special.Statement.{statement}
 use Rattle.vecop_labels.proofs.is_special.Tie as tie

@@ -1,6 +1,6 @@
 -- `vecop_labels::put_more_tags` meets its contract. Assumes nothing.
 use borrow.Author.Needs.{needs}
-use Rattle.metric_name.proofs.Cursors.{key-order, key-within, span-within, next-fewer}
+use Rattle.record_tags.proofs.Cursors.{key-order, key-within, span-within, next-fewer}
 use Rattle.vecop_labels.proofs.Walks.{MoreLeft, more-start, more-done, more-room, more-turn, value-order, value-fits}
 use Rattle.vecop_labels.proofs.put_more_tags.Statement.{statement}
 use Rattle.vecop_labels.proofs.put_more_tags.Tie as tie

@@ -1,6 +1,6 @@
 -- `vecop_labels::put_name` meets its contract. Assumes nothing.
 use borrow.Author.Needs.{needs}
-use Rattle.labels.proofs.Fields.{place-order, place-within}
+use Rattle.fields.proofs.Fields.{place-order, place-within}
 use Rattle.vecop_labels.proofs.Walks.{name-room, name-put, name-none}
 use Rattle.vecop_labels.proofs.put_name.Statement.{statement}
 use Rattle.vecop_labels.proofs.put_name.Tie as tie

@@ -1,6 +1,6 @@
 -- `vecop_labels::put_tags` meets its contract. Assumes nothing.
 use borrow.Author.Needs.{needs}
-use Rattle.metric_name.proofs.Cursors.{key-order, key-within, span-within}
+use Rattle.record_tags.proofs.Cursors.{key-order, key-within, span-within}
 use Rattle.vecop_labels.proofs.Walks.{tags-none, tags-room, tags-more-room, tags-put, value-order, value-fits}
 use Rattle.vecop_labels.proofs.put_tags.Statement.{statement}
 use Rattle.vecop_labels.proofs.put_tags.Tie as tie

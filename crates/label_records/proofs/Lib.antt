@@ -1,0 +1,2 @@
+pub mod TagsRead
+pub mod RecordsRead

@@ -1,0 +1,28 @@
+-- `labels_end` meets its contract. Assumes nothing.
+use borrow.Author.Needs.{needs}
+use Rattle.list_ends.proofs.Walks.{Walk, walk-starts, walk-cut, walk-empty, walk-turn, walk-ends}
+use Rattle.list_ends.proofs.labels_end.Statement.{statement}
+use Rattle.list_ends.proofs.labels_end.Tie as tie
+
+abbrev Inv-loop : tie.InvT-loop
+Inv-loop s at n p₀ left₀ p left = Walk s at n p left
+
+abbrev μ-loop : tie.MeasureT-loop
+μ-loop s at n p₀ left₀ p left = left
+
+pub labels-end-spec : {M : Type 1} → statement M
+labels-end-spec =
+    tie.close
+    (tie.spec
+    Inv-loop
+    μ-loop
+    (λ c. search walk-starts)
+    (λ c κs. search needs)
+    (λ c. search needs)
+    (λ c. search needs)
+    (λ c. search walk-cut)
+    (λ c. search walk-empty)
+    (λ c. search needs)
+    (λ c. search needs)
+    (λ c. search walk-turn)
+    (λ c. search walk-ends))

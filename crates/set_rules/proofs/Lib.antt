@@ -1,3 +1,0 @@
-pub mod Listing
-pub mod Records
-pub mod Rows

@@ -1,0 +1,26 @@
+// The record and the row of a series, as parts of a side's label array and readings.
+ghost use mathlib.Core.Path.{_≡_};
+ghost use Prim.Native.Nat.{_+_, _-_, _*_, _≤_, _<_};
+ghost use lib.ListN.{length};
+ghost use Rattle.side_parts.specs.Sides.{recordAt, rowAt, Positions};
+
+// The record of series i.
+pub fn record<'a>(array: &'a [u8], at: &[usize], i: usize) -> &'a [u8]
+    requires { ⌜ Positions (now array) (now at) ⌝ }
+    requires { ⌜ i + 1 < length (now at) ⌝ }
+    ensures { λ r. ⌜ now r ≡ recordAt (now (array .entry)) (now (at .entry)) i ⌝ }
+{
+    let a = at[i];
+    let e = at[i + 1];
+    &array[a..e]
+}
+
+// The row of series i, of p readings.
+pub fn row(rows: &[u64], p: usize, i: usize) -> &[u64]
+    requires { ⌜ i * p + p ≤ length (now rows) ⌝ }
+    ensures { λ r. ⌜ now r ≡ rowAt (now (rows .entry)) p i ⌝ }
+{
+    let a = i * p;
+    let e = a + p;
+    &rows[a..e]
+}
