@@ -31,7 +31,7 @@ returns c =
     let l = s .before in
     let g = l .before in
     let a = g .before .args in
-    cc (chosen (a .left) (a .right) (g .gaps .result) (l .solid .result) (s .solid2 .result) (g .gaps .ensures) (l .solid .ensures) (s .solid2 .ensures))
+    c .pick .ensures ∙ rw (w .written .ensures) (chosen (a .left) (a .right) (g .gaps .result) (l .solid .result) (s .solid2 .result) (g .gaps .ensures) (l .solid .ensures) (s .solid2 .ensures))
 
 pub op-div-spec : {M : Type 1} → statement M
 op-div-spec =

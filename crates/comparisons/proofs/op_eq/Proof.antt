@@ -1,4 +1,5 @@
 -- `op_eq` meets its contract, from those of its calls. Assumes nothing.
+use mathlib.Core.Path.{_∙_}
 use Rattle.model.specs.Reading.{holds}
 use Rattle.reading.proofs.Nan.{equals-told}
 use Rattle.comparisons.proofs.op_eq.Statement.{statement}
@@ -8,7 +9,7 @@ returns : tie.Need-returns
 unfolding holds
 returns c =
     let a = c .before .before .before .args in
-    cc (equals-told (a .left) (a .right))
+    c .either .ensures ∙ rw (c .before .before .gaps .ensures, c .before .same .ensures) (equals-told (a .left) (a .right))
 
 pub op-eq-spec : {M : Type 1} → statement M
 op-eq-spec = tie.close (tie.spec (λ c κs. tt) (λ c κs. tt) (λ c κs. tt) returns)

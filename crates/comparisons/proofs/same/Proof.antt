@@ -1,5 +1,5 @@
 -- `same` meets its contract. Assumes nothing.
-use mathlib.Core.Path.{sym}
+use mathlib.Core.Path.{refl, sym}
 use native.Mathlib.Omega.{arith}
 use Rattle.reading.proofs.Nan.{eq-fails, left-solid, right-solid}
 use Rattle.comparisons.proofs.same.Statement.{statement}
@@ -9,7 +9,7 @@ returns : tie.Need-returns
 returns c = let a = c .before .before .args in sym (eq-fails (a .left) (a .right) (omega arith))
 
 returns-2 : tie.Need-returns-2
-returns-2 c = cc
+returns-2 c = refl
 
 pub same-spec : {M : Type 1} → statement M
 same-spec =

@@ -1,13 +1,13 @@
 -- `to_comparison_value` meets its contract, from those of its calls. Assumes nothing.
-use mathlib.Core.Path.{_≡_}
+use Rattle.comparisons.proofs.Comparing.{as-number, as-reading}
 use Rattle.comparisons.proofs.to_comparison_value.Statement.{statement}
 use Rattle.comparisons.proofs.to_comparison_value.Tie as tie
 
 returns : tie.Need-returns
-returns c = cc
+returns c = search as-number
 
 returns-2 : tie.Need-returns-2
-returns-2 c = cc
+returns-2 c = search as-reading
 
 pub to-comparison-value-spec : {M : Type 1} → statement M
 to-comparison-value-spec =

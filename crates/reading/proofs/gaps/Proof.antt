@@ -8,4 +8,4 @@ add-result : tie.Need-add-result
 add-result c = let a = c .before .before .args in omega (arith, gap-at-most (a .left), gap-at-most (a .right))
 
 pub gaps-spec : {M : Type 1} → statement M
-gaps-spec = tie.close (tie.spec (λ c κs. tt) (λ c κs. tt) add-result (λ c. cc))
+gaps-spec = tie.close (tie.spec (λ c κs. tt) (λ c κs. tt) add-result (λ c. rw (c .before .gap .ensures, c .gap2 .ensures)))
