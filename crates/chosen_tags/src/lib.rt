@@ -9,7 +9,7 @@ ghost use Rattle.record_tags.specs.Cursors.{NextAt};
 ghost use Rattle.chosen_tags.specs.Keys.{isChosen};
 
 // Whether a matching puts the tags of a label into the key.
-pub fn is_chosen(matching: Matching, list: &[u8], label: &[u8]) -> bool
+fn is_chosen(matching: Matching, list: &[u8], label: &[u8]) -> bool
     ensures { λ r. ⌜ r ≡ isChosen (matchingOf matching) (namesOf (now (list .entry))) (now (label .entry)) ⌝ }
 {
     match matching {

@@ -33,7 +33,7 @@ pub enum Merges {
 }
 
 // Merges the rows of a group from a place up to another, in order.
-pub fn merge_between(
+fn merge_between(
     rows: &[u64],
     groups: &[usize],
     g: usize,

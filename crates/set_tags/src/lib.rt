@@ -14,7 +14,7 @@ ghost use Rattle.edited_tags.specs.Streams.{editedTags};
 ghost use Rattle.set_tags.specs.Records.{ShortRecords, edited};
 
 // How many tags the edited record has, and their bytes.
-pub fn edited_size(many: &[u8], source: &[u8], join: &[u8], skip: &[u8]) -> Size
+fn edited_size(many: &[u8], source: &[u8], join: &[u8], skip: &[u8]) -> Size
     requires { ⌜ ShortRecords (now many) (now source) ⌝ }
     ensures { λ r. ⌜ TagsSized (editedTags (namesOf (now (join .entry))) (namesOf (now (skip .entry))) (now (many .entry)) (now (source .entry))) r ⌝ }
 {
@@ -38,7 +38,7 @@ pub fn edited_size(many: &[u8], source: &[u8], join: &[u8], skip: &[u8]) -> Size
 }
 
 // Writes the edited tags, and gives the place behind them.
-pub fn put_edited<'a>(
+fn put_edited<'a>(
     out: &mut [u8],
     at: usize,
     many: &'a [u8],

@@ -7,7 +7,7 @@ ghost use Rattle.record_tags.specs.Cursors.{NextAt};
 use record_tags::Next;
 
 // Whether the tags of a label are set from the source.
-pub fn is_set(join: &[u8], skip: &[u8], label: &[u8]) -> bool
+fn is_set(join: &[u8], skip: &[u8], label: &[u8]) -> bool
     ensures { λ r. ⌜ r ≡ isSet (namesOf (now (join .entry))) (namesOf (now (skip .entry))) (now (label .entry)) ⌝ }
 {
     if labels::in_list(skip, label) {
@@ -20,7 +20,7 @@ pub fn is_set(join: &[u8], skip: &[u8], label: &[u8]) -> bool
 }
 
 // Whether the many side's tag of a label stays.
-pub fn is_staying(source: &[u8], join: &[u8], skip: &[u8], label: &[u8]) -> bool
+fn is_staying(source: &[u8], join: &[u8], skip: &[u8], label: &[u8]) -> bool
     ensures { λ r. ⌜ r ≡ stays (namesOf (now (join .entry))) (namesOf (now (skip .entry))) (labelsOf (now (source .entry)) .tags) (now (label .entry)) ⌝ }
 {
     if is_set(join, skip, label) {
