@@ -5,7 +5,7 @@ use mathlib.Core.List.{List}
 use native.Mathlib.Omega.{arith}
 use lib.ListN.{length, getD}
 use Rattle.plan.specs.Keys.{firstOf, lastOf, KeyEnds}
-use Rattle.tried_merges.specs.Laws.{first-most, last-most}
+use Rattle.plan.specs.Laws.Ends.{first-most, last-most}
 
 -- the first and the last place of a key on a side
 abbrev pub endsCode : List ℕ → ℕ → ℕ

@@ -18,12 +18,13 @@ use Rattle.merge.specs.declared.Merged.{Merged}
 use Rattle.merge.specs.declared.Merged.the-variants as M
 use Rattle.merge.specs.Merging.{done, overlapping, refused, doneOr, mergedIf, mergedAlone, MergedAs}
 use Rattle.plan.specs.Keys.{firstOf, lastOf, KeyEnds}
+use Rattle.plan.specs.Laws.Ends.{last-within, ends-within, several-stand}
 use Rattle.plan.specs.Merging.{rowAt, RowMerge, row, failedAt, onRow, mergeGroup, mergeLast, mergeLead}
 use Rattle.merging.specs.declared.Merges.{Merges}
 use Rattle.merging.specs.declared.Merges.the-variants.{Done, FailedAt}
 use Rattle.merging.specs.Groups.{absorbedOne, thereIf, AbsorbedAs, MergedGroup}
 use Rattle.key_places.specs.Places as Places
-use Rattle.tried_merges.specs.Laws.{last-places, last-within, ends-within, several-stand, several-merged}
+use Rattle.tried_merges.specs.Laws.{last-places, several-merged}
 
 -- `absorb`
 
@@ -139,11 +140,11 @@ row-long : (i n p : ℕ) (rows : List ℕ) → i < n → n * p ≤ length rows �
 row-long i n p rows h room =
     length-take-le p (drop (i * p) rows) (let z = row-of i n p rows h room in omega (arith, z, length-drop (i * p) rows))
 
-module _ (rows keys : List ℕ) (p : ℕ) (room : length keys * p ≤ length rows) where
-  module _ (k : ℕ) (h : firstOf keys k < length keys) (last : ℕ) (found : last ≡ Places.lastOf keys k) where
-    hl : last ≡ lastOf keys k
-    hl = found ∙ last-places k keys
+pub last-told : (keys : List ℕ) (k last : ℕ) → last ≡ Places.lastOf keys k → last ≡ lastOf keys k
+last-told keys k last found = found ∙ last-places k keys
 
+module _ (rows keys : List ℕ) (p : ℕ) (room : length keys * p ≤ length rows) where
+  module _ (k : ℕ) (h : firstOf keys k < length keys) (last : ℕ) (hl : last ≡ lastOf keys k) where
     within : last < length keys
     within = rw hl (last-within k keys h)
 
@@ -186,33 +187,31 @@ module _ (rows keys : List ℕ) (p : ℕ) (room : length keys * p ≤ length row
 
 module _ (rows keys : List ℕ) (p : ℕ) (room : length keys * p ≤ length rows) (k first last : ℕ) (e : KeyEnds keys k first last) (h : first < last) where
   ends-first : first < length keys
-  ends-first = several-stand 0 p rows k keys first last e h
+  ends-first = several-stand keys k first last e h
 
   ends-last : last < length keys
-  ends-last = ends-within 0 p rows k keys first last e ends-first
-
-  pub ends-last-row : last * p + p ≤ length rows
-  ends-last-row = row-of last (length keys) p rows ends-last room
-
-  pub ends-first-row : first * p + p ≤ length rows
-  ends-first-row = row-of first (length keys) p rows ends-first room
+  ends-last = ends-within keys k first last e ends-first
 
   pub ends-last-in : last ≤ length keys
   ends-last-in = omega (arith, ends-last)
 
-  pub ends-long : (s : List ℕ) → s ≡ rowAt p rows last → length s ≡ p
-  ends-long s hs = rw hs (row-long last (length keys) p rows ends-last room)
+  -- the row of a place that is not behind the last
 
-  pub ends-first-long : (s : List ℕ) → s ≡ rowAt p rows first → length s ≡ p
-  ends-first-long s hs = rw hs (row-long first (length keys) p rows ends-first room)
+  pub ends-row : (i : ℕ) → i ≤ last → i * p + p ≤ length rows
+  ends-row i hi = row-of i (length keys) p rows (omega (arith, ends-last)) room
 
-  module _ (x y d : List ℕ) (hx : x ≡ rowAt p rows last) (hy : y ≡ rowAt p rows first) (hd : d ≡ overwritten x y) where
+  pub ends-long : (i : ℕ) (s : List ℕ) → s ≡ rowAt p rows i → i ≤ last → length s ≡ p
+  ends-long i s hs hi = rw hs (row-long i (length keys) p rows (omega (arith, ends-last)) room)
+
+  -- such a row, written over by another
+  module _ (i : ℕ) (x y d : List ℕ) (hd : d ≡ overwritten x y) (hx : x ≡ rowAt p rows i) (hi : i ≤ last) where
     several-long : length d ≡ p
-    several-long = ap length hd ∙ overwritten-wide x y ∙ ends-long x hx
+    several-long = ap length hd ∙ overwritten-wide x y ∙ ends-long i x hx hi
 
     pub several-room : length keys * length d ≤ length rows
     several-room = rw several-long room
 
+  module _ (x y d : List ℕ) (hx : x ≡ rowAt p rows last) (hy : y ≡ rowAt p rows first) (hd : d ≡ overwritten x y) where
     pub several-told : (allowance : ℕ) → mergedIf true (rowAt p rows last) (rowAt p rows first) ≡ merged allowance (rowAt p rows last) (rowAt p rows first) → (d′ : List ℕ) (r : Merges) → MergedGroup (mergeGroup allowance (length d) rows k (first + 1) (take (last - (first + 1)) (drop (first + 1) keys)) d) (length d) d′ r → MergedGroup (mergeLast allowance p rows keys k) p d′ r
     several-told allowance m d′ r g =
-        rw (several-merged allowance p rows k keys first last e h m) (rw (several-long, add-one first, hd, hx, hy) at g)
+        rw (several-merged allowance p rows k keys first last e h m) (rw (several-long last x y d hd hx (omega arith), add-one first, hd, hx, hy) at g)

@@ -31,7 +31,7 @@ module _ (k : ℕ) where
   some-place i (x ∷ keys) h =
       cases (eqb x k) (λ e. rw e (omega arith)) (λ e. rw e (some-place (suc i) keys (let z : suc (firstOf keys k) < suc (length keys) = rw e at h in omega (arith, z))))
 
-  -- none is behind the last, which is a place where there is one
+  -- none is behind the last
 
   last-least : (xs : List ℕ) (n i : ℕ) → n ≤ i → n ≤ lastFrom n i xs k
   unfolding lastFrom
@@ -59,25 +59,6 @@ module _ (k : ℕ) where
 
   pub behind-last : (keys : List ℕ) (j : ℕ) → lastOf keys k < j → placesOf k j (drop j keys) ≡ []
   behind-last keys j h = rw (zero-add j) at (none-from j keys (length keys) 0 (omega (arith, h)))
-
-  last-below : (xs : List ℕ) (n i m : ℕ) → n < m → i + length xs ≤ m → lastFrom n i xs k < m
-  unfolding lastFrom
-  last-below [] n i m h l = h
-  last-below (x ∷ xs) n i m h l =
-      cases (eqb x k)
-      (λ e. rw e (last-below xs i (suc i) m (omega arith) (omega arith)))
-      (λ e. rw e (last-below xs n (suc i) m h (omega arith)))
-
-  last-stands : (xs : List ℕ) (n i m : ℕ) → firstOf xs k < length xs → i + length xs ≤ m → lastFrom n i xs k < m
-  unfolding firstOf lastFrom
-  last-stands [] n i m h l = absurd (omega arith)
-  last-stands (x ∷ xs) n i m h l =
-      cases (eqb x k)
-      (λ e. rw e (last-below xs i (suc i) m (omega arith) (omega arith)))
-      (λ e. rw e (last-stands xs n (suc i) m (let z : suc (firstOf xs k) < suc (length xs) = rw e at h in omega (arith, z)) (omega arith)))
-
-  pub last-within : (keys : List ℕ) → firstOf keys k < length keys → lastOf keys k < length keys
-  last-within keys h = last-stands keys (length keys) 0 (length keys) h (omega arith)
 
   -- where they are one place, there is no other
 

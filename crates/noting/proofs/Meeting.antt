@@ -12,7 +12,7 @@ use Rattle.model.specs.Lists.{isEmpty}
 use Rattle.plan.specs.Keys.{KeyEnds}
 use Rattle.plan.specs.Sets.{placesOf, metPlaces}
 use Rattle.noting.specs.Places.{NotedIf, NotedAll, Within, RightSide}
-use Rattle.noting.proofs.Between.{from-first, some-place, last-within, one-place}
+use Rattle.noting.proofs.Between.{from-first, some-place, one-place}
 
 -- the places of a key are few, and places
 
@@ -46,9 +46,6 @@ met-most falls keys k m h l = go (placesOf k 0 keys) falls l
     go [] false l = l
 
 module _ (keys : List ℕ) (k first last : ℕ) (ends : KeyEnds keys k first last) where
-  pub ends-within : first < length keys → last < length keys
-  ends-within h = rw (ends .last-place) (last-within k keys (rw (← ends .first-place) h))
-
   -- a key of one place meets one at most
   pub met-one : first ≡ last → (falls : Bool) → length (metPlaces falls keys k) ≤ 1
   met-one e falls = met-most falls keys k 1 (omega arith) (one-place k keys (omega (arith, e, ends .first-place, ends .last-place)))

@@ -1,4 +1,5 @@
 pub mod Common
+pub mod Ends
 pub mod Settling
 pub mod Keyed
 pub mod Merging

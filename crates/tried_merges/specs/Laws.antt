@@ -14,6 +14,8 @@ use Rattle.key_places.specs.Places.{firstWhere, last-later, last-here, last-abs
 use Rattle.plan.specs.Keys.{firstOf, lastFrom, lastOf, KeyEnds}
 use Rattle.model.specs.Row.{overwritten, merged}
 use Rattle.merge.specs.Merging.{mergedIf}
+use Rattle.plan.specs.Laws.Ends as Ends
+pub use Rattle.plan.specs.Laws.Ends.{first-most, last-within}
 use Rattle.plan.specs.Merging.{rowAt, row, failedAt, onRow, mergeGroup, mergeLast}
 
 module _ (k : ℕ) where
@@ -51,12 +53,6 @@ module _ (k : ℕ) where
       (λ e. rw e (omega arith))
       (λ e. rw e (let h = ltb-false (Places.lastOf keys k) (length keys) e in omega (arith, h, Places.last-within isKey keys))))
 
-  pub first-most : (keys : List ℕ) → firstOf keys k ≤ length keys
-  first-most keys = rw (← first-places keys) (Places.first-within isKey keys)
-
-  pub last-most : (keys : List ℕ) → lastOf keys k ≤ length keys
-  last-most keys = rw (← last-places keys) (Places.last-within isKey keys)
-
   -- a key that stands somewhere stands at its first and at its last place
 
   module _ (keys : List ℕ) (h : firstOf keys k < length keys) where
@@ -65,9 +61,6 @@ module _ (k : ℕ) where
 
     pub first-is : getD keys (firstOf keys k) 0 ≡ k
     first-is = eqb-true (getD keys (firstOf keys k) 0) k (rw (first-places keys) at (Places.first-holds isKey keys 0 found))
-
-    pub last-within : lastOf keys k < length keys
-    last-within = rw (← last-places keys) (Places.first-last isKey keys 0 found)
 
     pub last-is : getD keys (lastOf keys k) 0 ≡ k
     last-is = eqb-true (getD keys (lastOf keys k) 0) k (rw (last-places keys) at (Places.last-holds isKey keys 0 (Places.first-last isKey keys 0 found)))
@@ -78,7 +71,7 @@ module _ (k : ℕ) where
 
   -- the first place is not behind the last
   pub first-last : (keys : List ℕ) → firstOf keys k ≤ lastOf keys k
-  first-last keys = cases (ltb (lastOf keys k) (length keys)) (λ e. there (ltb-true (lastOf keys k) (length keys) e)) (λ e. (let h = ltb-false (lastOf keys k) (length keys) e in omega (arith, h, first-most keys)))
+  first-last keys = cases (ltb (lastOf keys k) (length keys)) (λ e. there (ltb-true (lastOf keys k) (length keys) e)) (λ e. (let h = ltb-false (lastOf keys k) (length keys) e in omega (arith, h, first-most k keys)))
     where
       there : lastOf keys k < length keys → firstOf keys k ≤ lastOf keys k
       there h =
@@ -118,10 +111,10 @@ module _ (allowance p : ℕ) (rows : List ℕ) (k : ℕ) where
 
   module _ (keys : List ℕ) (first last : ℕ) (e : KeyEnds keys k first last) where
     pub ends-within : first < length keys → last < length keys
-    ends-within h = rw (e .last-place) (last-within k keys (rw (← e .first-place) h))
+    ends-within = Ends.ends-within keys k first last e
 
     pub several-stand : first < last → first < length keys
-    several-stand h = omega (arith, h, e .last-place, last-most k keys)
+    several-stand = Ends.several-stand keys k first last e
 
     -- several series: the first of them is merged into the last, then those between
     pub several : first < last → mergeLast allowance p rows keys k ≡ onRow (merged allowance (rowAt p rows last) (rowAt p rows first)) (failedAt first (rowAt p rows last)) (mergeGroup allowance p rows k (suc first) (take (last - suc first) (drop (suc first) keys)))

@@ -1,6 +1,7 @@
 -- `met` meets its contract. Assumes nothing.
 use borrow.Author.Needs.{needs}
-use Rattle.noting.proofs.Meeting.{ends-within, met-some, met-none}
+use Rattle.plan.specs.Laws.Ends.{ends-within}
+use Rattle.noting.proofs.Meeting.{met-some, met-none}
 use Rattle.noting.proofs.met.Statement.{statement}
 use Rattle.noting.proofs.met.Tie as tie
 

@@ -1,7 +1,6 @@
 -- Numbers, places and lists, as the laws of this crate share them. Assumes nothing.
 use Prim.Native.Nat.{ℕ, zero, suc, _+_}
 use mathlib.Core.Path.{_≡_, refl, sym, ap, _∙_}
-use mathlib.Core.Bool.{Bool, true, false, not}
 use mathlib.Core.Option.{Option, none, some}
 use mathlib.Core.List.{List, [], _∷_, _++_, map}
 use native.Mathlib.Omega.{arith}
@@ -36,14 +35,6 @@ eqb-sym a b = cases (eqb b a) (λ e. eq-eqb a b (sym (eqb-true b a e)) ∙ sym e
 
 pub zero-plus : (n : ℕ) → 0 + n ≡ n
 zero-plus n = omega arith
-
-pub not-so : (t : Bool) → true ≡ not t → t ≡ false
-not-so true e = e
-not-so false e = refl
-
-pub is-so : (t : Bool) → false ≡ not t → t ≡ true
-is-so true e = refl
-is-so false e = e
 
 pub or-none : (o : Option Duplicate) → orElse o none ≡ o
 or-none none = refl

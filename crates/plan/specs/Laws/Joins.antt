@@ -11,7 +11,7 @@ use borrow.Author.Tests.{eqb-true, eq-eqb, ne-eqb}
 use Rattle.operator.specs.Kinds.{Arithmetic, Comparison, arithmetic, comparison, kindOf}
 use Rattle.model.specs.Lists.{cases, keep, gather}
 use Rattle.model.specs.Laws.Lists.{gather-append, gather-map, keep-map, map-append}
-use Rattle.model.specs.Laws.Booleans.{never, both-of}
+use Rattle.model.specs.Laws.Booleans.{never, not-true, not-false, both-of}
 use Rattle.model.specs.Laws.Tags.{same-tags-is, is-same-tags}
 use Rattle.model.specs.Labels.{Labels, sameTags}
 use Rattle.model.specs.Query.{Query, group, Side, left, right}
@@ -31,7 +31,7 @@ use Rattle.plan.specs.Joins.{JoinSides, sameEditedBy, leadOf, leadsAmong
 use Rattle.plan.specs.Laws.Settling.{firstClash, goodSeries, clash-append, good-append, firstOver, first-append, clash-gather, good-gather, clash-produced, good-produced, settled-concludes}
 use Rattle.plan.specs.Laws.Keyed.{Sees, EachSees, Numbers, kept-lefts, kept-rights, all-lefts, all-rights}
 use Rattle.plan.specs.Laws.Merging.{RowsAt, RowsAt-drop, mergedAs, row-at, absorbed-group, absorbed-relabelled}
-use Rattle.plan.specs.Laws.Common.{noSeries, labelsOfSide, getD-labels, labels-length, eqb-sym, zero-plus, not-so, is-so, or-none, both-none, From, from-all, from-next, from-here}
+use Rattle.plan.specs.Laws.Common.{noSeries, labelsOfSide, getD-labels, labels-length, eqb-sym, zero-plus, or-none, both-none, From, from-all, from-next, from-here}
 
 -- being edited alike is an equivalence
 
@@ -518,7 +518,7 @@ module _ (q : Query) (many : Side) (p : ℕ) (bs : List Series) (mk : List ℕ) 
     module _ (sees : (b : Series) (k : ℕ) → Sees q false ls rs ks ms b k → ofSide (other many) (ofKey q (b .labels) (placed ls rs)) ≡ keyed (other many) k 0 ok os) where
       comparison-emits : (b : Series) (i k : ℕ) → i < length bs → getD bs i noSeries ≡ b → getD mk i 0 ≡ k → Sees q false ls rs ks ms b k → EmitsJoin (emission q rule (placed ls rs)) b i k
       comparison-emits b i k w hb hk s =
-          let part : eqb k dropped ≡ false = not-so (eqb k dropped) (s .takes) in
+          let part : eqb k dropped ≡ false = not-true (eqb k dropped) (sym (s .takes)) in
           let here : Placed = record { place = record { side = many; number = i }; series = b } in
           let seen = ofKey q (b .labels) (placed ls rs) in
           record {
@@ -547,13 +547,13 @@ module _ (q : Query) (many : Side) (p : ℕ) (bs : List Series) (mk : List ℕ) 
 
           go : (t : Bool) → hasReadings b ≡ t → EmitsJoin (emission q (dropping rule) (placed ls rs)) b i k
           go true h =
-              let part : eqb k dropped ≡ false = not-so (eqb k dropped) (sym h ∙ s .takes) in
+              let part : eqb k dropped ≡ false = not-true (eqb k dropped) (sym (sym h ∙ s .takes)) in
               record {
                 clashes = clash-produced (here .place) (dropping rule here (ofKey q (b .labels) (placed ls rs))) ∙ rw h (taking-clash b i k seen (sees b k s h) ∙ rw part);
                 answers = λ n. good-produced (here .place) (dropping rule here (ofKey q (b .labels) (placed ls rs))) ∙ rw h (taking-good b i k seen w hb hk (sees b k s h) (rw part at n) ∙ rw part);
               }
           go false h =
-              let out : eqb k dropped ≡ true = is-so (eqb k dropped) (sym h ∙ s .takes) in
+              let out : eqb k dropped ≡ true = not-false (eqb k dropped) (sym (sym h ∙ s .takes)) in
               record { clashes = rw (h, out); answers = λ n. rw (h, out) }
 
       each-arithmetic : (i : ℕ) (cs : List Series) (xs : List ℕ) → From noSeries bs cs i → From 0 mk xs i → EachSees (Sees q true ls rs ks ms) cs xs → EachJoin (emission q (dropping rule) (placed ls rs)) i cs xs

@@ -1,12 +1,13 @@
 -- The series that a rule sees, by their key numbers. Assumes nothing.
 use Prim.Native.Nat.{ℕ, zero, suc, _+_}
-use mathlib.Core.Path.{_≡_, refl, ap, _∙_}
+use mathlib.Core.Path.{_≡_, refl, sym, ap, _∙_}
 use mathlib.Core.Bool.{Bool, true, false, not, _&&_}
 use mathlib.Core.List.{List, [], _∷_, append-nil}
 use native.Mathlib.Omega.{arith}
 use lib.Dec.{eqb}
 use Rattle.model.specs.Lists.{cases, keep}
 use Rattle.model.specs.Laws.Lists.{keep-append, keep-cong, All-each}
+use Rattle.model.specs.Laws.Booleans.{and-true}
 use Rattle.model.specs.Query.{Query, Side, left, right, sameKey}
 use Rattle.model.specs.Vector.{Series}
 use Rattle.semantics.specs.Laws.Places.{on-same}
@@ -117,12 +118,8 @@ module _ (q : Query) (ls rs : List Series) (ks ms : List ℕ) (b : Series) (k : 
 
   -- the others see all
   module _ (s : Sees q false ls rs ks ms b k) where
-    and-true : (t : Bool) → t ≡ (t && true)
-    and-true true = refl
-    and-true false = refl
-
     all-seen : ofKey q (b .labels) (placed ls rs) ≡ keep (λ x. seenBy q false b (x .series)) (placed ls rs)
-    all-seen = keep-cong (λ x. sameKey q (b .labels) (x .series .labels)) (λ x. seenBy q false b (x .series)) (placed ls rs) (All-each (λ x. and-true (sameKey q (b .labels) (x .series .labels))) (placed ls rs))
+    all-seen = keep-cong (λ x. sameKey q (b .labels) (x .series .labels)) (λ x. seenBy q false b (x .series)) (placed ls rs) (All-each (λ x. sym (and-true (sameKey q (b .labels) (x .series .labels)))) (placed ls rs))
 
     pub all-lefts : ofSide left (ofKey q (b .labels) (placed ls rs)) ≡ keyed left k 0 ks ls
     all-lefts =

@@ -1,7 +1,7 @@
 -- Numbers that are equal exactly where keys are tell every series what it sees; so do they with the dropped series taken out. Assumes nothing.
 use Prim.Native.Nat.{ℕ, zero, suc, _<_}
 use mathlib.Core.Path.{_≡_, refl, sym, ap, _∙_}
-use mathlib.Core.Bool.{Bool, true, false, not, cond, _&&_}
+use mathlib.Core.Bool.{Bool, true, false, not, cond}
 use mathlib.Core.List.{List, [], _∷_}
 use native.Mathlib.Omega.{arith}
 use lib.Dec.{eqb}
@@ -9,7 +9,7 @@ use lib.ListN.{length, getD}
 use borrow.Author.Tests.{ne-eqb}
 use Rattle.model.specs.Lists.{cases}
 use Rattle.model.specs.Laws.Tags.{same-tags-is, is-same-tags}
-use Rattle.model.specs.Laws.Booleans.{never}
+use Rattle.model.specs.Laws.Booleans.{never, not-true, and-true, and-false}
 use Rattle.model.specs.Row.{onlyMissing}
 use Rattle.model.specs.Labels.{Labels, sameTags}
 use Rattle.model.specs.Query.{Query, sameKey, keyOf}
@@ -60,10 +60,6 @@ each-by P [] [] e h = tt
 each-by P [] (x ∷ xs) e h = absurd (omega (arith, e))
 each-by P (b ∷ bs) [] e h = absurd (omega (arith, e))
 each-by P (b ∷ bs) (x ∷ xs) e h = (h 0 (omega arith), each-by P bs xs (omega (arith, e)) (λ j w. h (suc j) (omega (arith, w))))
-
-and-true : (t : Bool) → (t && true) ≡ t
-and-true true = refl
-and-true false = refl
 
 module _ (q : Query) where
   tells-back : (cs bs : List Series) (xs ys : List ℕ) → TellsKeys q cs bs xs ys → TellsKeys q bs cs ys xs
@@ -126,14 +122,6 @@ module _ (q : Query) where
       cases (onlyMissing (b .row))
       (λ e. rw (has, reads b, e, ne-eqb dropped x (λ g. omega (arith, g, hx))) (and-false (sameKey q (a .labels) (b .labels))))
       (λ e. rw (has, reads b, e) (and-true (sameKey q (a .labels) (b .labels)) ∙ sym t ∙ eqb-sym x y))
-    where
-      not-true : (t : Bool) → not t ≡ true → t ≡ false
-      not-true true e = sym e
-      not-true false e = refl
-
-      and-false : (t : Bool) → (t && false) ≡ false
-      and-false true = refl
-      and-false false = refl
 
   seen-kept : (cs bs : List Series) (xs ys : List ℕ) → length xs ≡ length cs → length ys ≡ length bs → TellsKeys q cs bs xs ys
       → ((i : ℕ) → i < length cs → getD xs i 0 < dropped) → ((i : ℕ) → i < length bs → getD ys i 0 < dropped)

@@ -11,6 +11,7 @@ use borrow.Author.Tests.{ne-eqb, lt-ltb, le-ltb}
 use Rattle.operator.specs.Kinds.{Arithmetic, Comparison, arithmetic, comparison, kindOf}
 use Rattle.model.specs.Lists.{cases, keep, gather}
 use Rattle.model.specs.Laws.Lists.{gather-append}
+use Rattle.model.specs.Laws.Booleans.{not-true, not-false}
 use Rattle.model.specs.Labels.{Labels}
 use Rattle.model.specs.Query.{Query, oneToOne, Side, left, right}
 use Rattle.model.specs.Vector.{Series, Shape, readingsOf}
@@ -24,7 +25,7 @@ use Rattle.plan.specs.Keys.{dropped, firstOf, lastOf, keyed}
 use Rattle.plan.specs.Merging.{RowMerge, row, failedAt, mergeLast, rowOf, clash}
 use Rattle.plan.specs.Conclude.{orElse, conclude}
 use Rattle.plan.specs.Pairs.{isPair, Sides, pairClash, pairsClash, pairsFrom, pairRow, pairSeries}
-use Rattle.plan.specs.Laws.Common.{noSeries, labelsOfSide, getD-labels, eqb-sym, zero-plus, not-so, is-so, or-none, both-none}
+use Rattle.plan.specs.Laws.Common.{noSeries, labelsOfSide, getD-labels, eqb-sym, zero-plus, or-none, both-none}
 use Rattle.plan.specs.Laws.Settling.{firstClash, goodSeries, firstOver, first-append, clash-gather, good-gather, clash-produced, good-produced, settled-concludes}
 use Rattle.plan.specs.Laws.Keyed.{Sees, EachSees, Numbers, kept-lefts, kept-rights, all-lefts, all-rights}
 use Rattle.plan.specs.Laws.Merging.{RowsAt, mergedAs, last-of, first-of, first-none, merged-last}
@@ -210,7 +211,7 @@ module _ (q : Query) (p : ℕ) (ls rs : List Series) (ks ms : List ℕ) (sameLef
 
   comparison-emits : (b : Series) (i k : ℕ) → i < length ks → Sees q false ls rs ks ms b k → EmitsPair (emission q compares (placed ls rs)) b i k
   comparison-emits b i k within s =
-      let part : eqb k dropped ≡ false = not-so (eqb k dropped) (s .takes) in
+      let part : eqb k dropped ≡ false = not-true (eqb k dropped) (sym (s .takes)) in
       let seen = ofKey q (b .labels) (placed ls rs) in
       let hx = all-lefts q ls rs ks ms b k s in
       let hz = all-rights q ls rs ks ms b k s in
@@ -236,13 +237,13 @@ module _ (q : Query) (p : ℕ) (ls rs : List Series) (ks ms : List ℕ) (sameLef
 
       go : (t : Bool) → hasReadings b ≡ t → EmitsPair (emission q (dropping compares) (placed ls rs)) b i k
       go true h =
-          let part : eqb k dropped ≡ false = not-so (eqb k dropped) (part-of true h) in
+          let part : eqb k dropped ≡ false = not-true (eqb k dropped) (sym (part-of true h)) in
           record {
             clashes = clash-produced (record { side = left; number = i }) (dropping compares (record { place = record { side = left; number = i }; series = b }) (ofKey q (b .labels) (placed ls rs))) ∙ rw h (place-clash b i k within part (ofSide left seen) (ofSide right seen) (sym (kept-lefts q ls rs ks ms b k s h)) (sym (kept-rights q ls rs ks ms b k s h)));
             answers = λ n. good-produced (record { side = left; number = i }) (dropping compares (record { place = record { side = left; number = i }; series = b }) (ofKey q (b .labels) (placed ls rs))) ∙ rw h (place-good b i k within part (ofSide left seen) (ofSide right seen) (sym (kept-lefts q ls rs ks ms b k s h)) (sym (kept-rights q ls rs ks ms b k s h)) n);
           }
       go false h =
-          let out : eqb k dropped ≡ true = is-so (eqb k dropped) (part-of false h) in
+          let out : eqb k dropped ≡ true = not-false (eqb k dropped) (sym (part-of false h)) in
           record { clashes = rw (h, out); answers = λ n. rw (h, out) }
 
   each-arithmetic : (i : ℕ) (bs : List Series) (xs : List ℕ) → i + length xs ≡ length ks → EachSees (Sees q true ls rs ks ms) bs xs → EachPair (emission q (dropping compares) (placed ls rs)) i bs xs
