@@ -61,7 +61,7 @@ module _ (s : List ℕ) (at n : ℕ) where
             one : namesIn (suc (left - 1)) (drop p s) ≡ withName (take (e - a) (drop a s)) (namesIn (left - 1) (drop e s))
             one = unfold namesIn in rw (place .read)
 
-        pub walk-empty : a ≡ e → Bad ≡ endOf (length s) (namesIn n (drop at s))
+        pub walk-empty : e ≤ a → Bad ≡ endOf (length s) (namesIn n (drop at s))
         walk-empty h = let z : e - a ≡ 0 = omega arith in none-named (next ∙ rw z)
 
         pub walk-turn : (a ≡ e → ⊥) → Walk s at n e (left - 1)

@@ -1,4 +1,5 @@
 -- `labels_end` meets its contract. Assumes nothing.
+use native.Mathlib.Omega.{arith}
 use borrow.Author.Needs.{needs}
 use Rattle.list_ends.proofs.Walks.{Walk, walk-starts, walk-cut, walk-empty, walk-turn, walk-ends}
 use Rattle.list_ends.proofs.labels_end.Statement.{statement}
@@ -9,6 +10,13 @@ Inv-loop s at n p₀ left₀ p left = Walk s at n p left
 
 abbrev μ-loop : tie.MeasureT-loop
 μ-loop s at n p₀ left₀ p left = left
+
+returns-2 : tie.Need-returns-2 Inv-loop μ-loop
+returns-2 c =
+    let known = c .before .before in
+    let read = known .before .before in
+    let turn = read .before in
+    walk-empty _ _ _ _ _ (turn .before .loop .inv) (turn .loop-test .taken) _ (read .field-at .ensures) _ _ (known .start .given .1) (omega arith)
 
 pub labels-end-spec : {M : Type 1} → statement M
 labels-end-spec =
@@ -21,7 +29,7 @@ labels-end-spec =
     (λ c. search needs)
     (λ c. search needs)
     (λ c. search walk-cut)
-    (λ c. search walk-empty)
+    returns-2
     (λ c. search needs)
     (λ c. search needs)
     (λ c. search walk-turn)

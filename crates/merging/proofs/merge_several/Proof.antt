@@ -29,6 +29,15 @@ merge-between-requires c κs =
     let start = one .before .before .before .before .before in
     (omega arith, (search ends-last-in, several-room _ _ _ (start .pre .1 .1 .1) _ _ _ (start .pre .0) (start .pre .1 .0) _ _ _ _ (put .put-overwritten .ensures) (one .row .ensures) (omega arith)))
 
+returns : tie.Need-returns
+returns c =
+    let between = c .before .before in
+    let put = between .before .before .before .before in
+    let two = put .before in
+    let one = two .before in
+    let start = one .before .before .before .before .before in
+    several-told _ _ _ (start .pre .1 .1 .1) _ _ _ (start .pre .0) (start .pre .1 .0) _ _ _ (one .row .ensures) (two .row2 .ensures) (put .put-overwritten .ensures) _ (start .pre .1 .1 .0) _ _ (between .merge-between .ensures)
+
 pub merge-several-spec : {M : Type 1} → statement M
 merge-several-spec =
     tie.close
@@ -39,4 +48,4 @@ merge-several-spec =
     (λ c. search needs)
     merge-between-requires
     (λ c. search needs)
-    (λ c. search several-told))
+    returns)

@@ -7,9 +7,12 @@ use Rattle.reading.proofs.Nan.{yes, present}
 use Rattle.reading.proofs.written.Statement.{statement}
 use Rattle.reading.proofs.written.Tie as tie
 
+float-to-bits-result : tie.Need-float-to-bits-result
+float-to-bits-result c = present _ (c .if1 .left)
+
 returns : tie.Need-returns
 unfolding toBits
 returns c = sym (ap (toBits binary64) (differs-from-itself _ (yes (c .if1 .taken))))
 
 pub written-spec : {M : Type 1} → statement M
-written-spec = tie.close (tie.spec (λ c. present _ (c .if1 .left)) returns (λ c. search needs))
+written-spec = tie.close (tie.spec float-to-bits-result returns (λ c. search needs))
