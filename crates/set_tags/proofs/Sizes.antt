@@ -60,12 +60,13 @@ module _ (naming : Naming) (many source : List ℕ) (short : ShortRecords many s
   pub name-fit : Fits w64 (n + 1)
   name-fit = omega (arith, naming-short naming many source, short .manyShort, short .sourceShort)
 
-  module _ (join skip : Names) (t k : ℕ) (ht : t ≡ length (editedTags join skip many source)) (hk : k ≡ length (encodeTags (editedTags join skip many source))) where
-    pub record-fit : Fits w64 (n + 1 + k)
-    record-fit = omega (arith, naming-short naming many source, edited-short join skip many source, short .manyShort, short .sourceShort)
+  -- with the tags of any two records
+  pub record-fit : (a b : List ℕ) (join skip : Names) (k : ℕ) → k ≡ length (encodeTags (editedTags join skip a b)) → ShortRecords a b → Fits w64 (n + 1 + k)
+  record-fit a b join skip k hk small =
+      omega (arith, naming-short naming many source, edited-short join skip a b, short .manyShort, short .sourceShort, small .manyShort, small .sourceShort)
 
-    pub record-sized : Sized (edited join skip naming many source) (record { tags = t; bytes = n + 1 + k })
-    record-sized = record { tags = ht; bytes = omega (arith, length-labels (edited join skip naming many source)) }
+  pub record-sized : (join skip : Names) (t k : ℕ) → t ≡ length (editedTags join skip many source) → k ≡ length (encodeTags (editedTags join skip many source)) → Sized (edited join skip naming many source) (record { tags = t; bytes = n + 1 + k })
+  record-sized join skip t k ht hk = record { tags = ht; bytes = omega (arith, length-labels (edited join skip naming many source)) }
 
 -- `set_tags`: a count of at most 32 is a byte
 pub few-fits : (ts : List Tag) (t : ℕ) → length ts ≤ maxTags → t ≡ length ts → Fits w8 t

@@ -3,11 +3,6 @@ use borrow.Author.Needs.{needs}
 use Rattle.tag_streams.proofs.Tests.{unset-stays, listed-goes, lacking-stays}
 use Rattle.tag_streams.proofs.is_staying.Statement.{statement}
 use Rattle.tag_streams.proofs.is_staying.Tie as tie
-use Rattle.tag_streams.proofs.is_staying.Reads as reads
-use Rattle.tag_streams.proofs.is_staying.Lts as lts
-use Rattle.labels.proofs.is_star.Reads as is-star-reads
-use Rattle.metric_name.proofs.lacks_tag.Reads as lacks-tag-reads
-use Rattle.tag_streams.proofs.is_set.Reads as is-set-reads
 
 is-set-requires : tie.Need-is-set-requires
 is-set-requires c κs = search needs
