@@ -1,7 +1,6 @@
 #!/usr/bin/env python3
 """Writes the files of crates/replay: the stored sample, and examples with what docs/01-scope.md says of them, each
 outcome written out here by hand. Run it in the repository."""
-import shutil
 import struct
 
 N = 0x7ff8000000000000
@@ -38,12 +37,12 @@ def vector(points, *series):
 
 
 def refused(number, first=0, second=0):
-    return (number, first, second), None
+    return (number, first, second, 0, 0, 0), (b'', [])
 
 
 def answer(points, *series):
     labels, readings = vector(points, *series)
-    return (0, len(series), points), (labels[6:], readings)
+    return (0, 0, 0, len(series), points, len(labels) - 6), (labels[6:], readings)
 
 
 BARE = record(b'')
@@ -171,20 +170,24 @@ def part(content):
 
 
 def rows(readings):
-    return number(len(readings)) + b''.join(struct.pack('<Q', reading(x)) for x in readings)
+    return part(b''.join(struct.pack('<Q', reading(x)) for x in readings))
+
+
+def case(asked, left, right, room, outcome):
+    """A case as oracle/README.md has it."""
+    numbers, (labels, readings) = outcome
+    return (b''.join(map(number, (*room, *numbers))) + part(asked) + part(left[0]) + rows(left[1]) + part(right[0])
+            + rows(right[1]) + part(labels) + rows(readings))
 
 
 examples = [*settled(), *misreadings(), *both_sides(), *query_faults(), *running()]
-with open('crates/replay/data/examples.bin', 'wb') as f:
-    f.write(number(len(examples)))
-    for name, asked, left, right, room, (numbers, output) in examples:
-        f.write(part(name.encode()) + b''.join(map(number, room)) + part(asked))
-        f.write(part(left[0]) + rows(left[1]) + part(right[0]) + rows(right[1]) + b''.join(map(number, numbers)))
-        if output is not None:
-            f.write(part(output[0]) + rows(output[1]))
-sample = shutil.copyfile('oracle/sample/cases.bin', 'crates/replay/data/cases.bin')
-with open(sample, 'rb') as f:
-    count, = struct.unpack('<H', f.read(2))
+with open('oracle/sample/cases.bin', 'rb') as f:
+    sample = f.read()
+count, = struct.unpack_from('<H', sample)
+with open('crates/replay/stdin', 'wb') as f:
+    f.write(sample)
+    for name, *called in examples:
+        f.write(part(name.encode()) + part(case(*called)))
 with open('crates/replay/stdout', 'w') as f:
     f.write(f'{count} cases of the sample, {count} agree\n')
     for name, *_ in examples:

@@ -1,161 +1,50 @@
-// Runs stored cases through exec_binop: the sample of the Rust's answers (oracle/README.md has its format), then examples, each with a
-// name and the lengths of the output parts before the case. The output parts are filled first, and every element of theirs is compared.
-use answers::Outcome;
+// Runs the stored cases on standard input through the exported function: the sample of the Rust's answers (oracle/README.md has its
+// format), then examples, each a name and a case. The output parts are filled first, and every element of theirs is compared.
+use case_parts::number_at;
+use case_parts::part_at;
+use case_text::print;
+use case_text::print_number;
+use libc::STDIN_FILENO;
 use libc::STDOUT_FILENO;
-ghost use Prim.Native.Nat.{_+_, _≤_, _<_};
+ghost use Prim.Native.Nat.{_+_, _≤_};
 ghost use lib.ListN.{length};
 ghost use Rattle.io.specs.Counts.{Counts};
-
-fn print(text: &[u8]) {
-    io::write_all(STDOUT_FILENO, text);
-}
-
-fn print_number(n: usize) {
-    io::print_decimal(STDOUT_FILENO, n as u64);
-}
-
-fn least(a: usize, b: usize) -> usize
-    ensures { λ r. ⌜ r ≤ a ⌝ }
-    ensures { λ r. ⌜ r ≤ b ⌝ }
-{
-    if a < b { a } else { b }
-}
-
-fn wide(b: u8) -> usize
-    ensures { λ r. ⌜ r < 256 ⌝ }
-{
-    b as usize
-}
-
-// The place n bytes further, or the end.
-fn ahead(s: &[u8], at: usize, n: usize) -> usize
-    requires { ⌜ at ≤ length (now s) ⌝ }
-    ensures { λ r. ⌜ at ≤ r ⌝ }
-    ensures { λ r. ⌜ r ≤ length (now (s .entry)) ⌝ }
-{
-    if s.len() - at < n { s.len() } else { at + n }
-}
-
-// The number in two bytes at a place.
-fn pair_at(s: &[u8], at: usize) -> usize
-    requires { ⌜ at + 2 ≤ length (now s) ⌝ }
-    ensures { λ r. ⌜ r < 65536 ⌝ }
-{
-    let next = at + 1;
-    wide(s[at]) + 256 * wide(s[next])
-}
-
-// The number in two bytes at a place, 0 where they are cut.
-fn number_at(s: &[u8], at: usize) -> usize
-    requires { ⌜ at ≤ length (now s) ⌝ }
-    ensures { λ r. ⌜ r < 65536 ⌝ }
-{
-    if s.len() - at < 2 { 0 } else { pair_at(s, at) }
-}
-
-// The number in four bytes at a place.
-fn half_at(s: &[u8], at: usize) -> usize
-    requires { ⌜ at + 4 ≤ length (now s) ⌝ }
-    ensures { λ r. ⌜ r < 4294967296 ⌝ }
-{
-    pair_at(s, at) + 65536 * pair_at(s, at + 2)
-}
 
 // The bits of the reading at a place.
 fn reading_at(s: &[u8], at: usize) -> u64
     requires { ⌜ at + 8 ≤ length (now s) ⌝ }
 {
-    let bits = half_at(s, at) + 4294967296 * half_at(s, at + 4);
+    let low = number_at(s, at) + 65536 * number_at(s, at + 2);
+    let high = number_at(s, at + 4) + 65536 * number_at(s, at + 6);
+    let bits = low + 4294967296 * high;
     bits as u64
-}
-
-// The bytes of a part behind its count. Its elements have 8 bytes or 1.
-fn part_size(s: &[u8], at: usize, size: usize) -> usize
-    requires { ⌜ at ≤ length (now s) ⌝ }
-{
-    if size == 8 {
-        8 * number_at(s, at)
-    } else {
-        number_at(s, at)
-    }
-}
-
-// The place behind a part.
-fn behind(s: &[u8], at: usize, size: usize) -> usize
-    requires { ⌜ at ≤ length (now s) ⌝ }
-    ensures { λ r. ⌜ r ≤ length (now (s .entry)) ⌝ }
-{
-    let start = ahead(s, at, 2);
-    ahead(s, start, part_size(s, at, size))
-}
-
-// A part's bytes.
-fn part<'a>(s: &'a [u8], at: usize, size: usize) -> &'a [u8]
-    requires { ⌜ at ≤ length (now s) ⌝ }
-{
-    let start = ahead(s, at, 2);
-    let end = ahead(s, start, part_size(s, at, size));
-    &s[start..end]
 }
 
 // Puts the readings of a part, as many as there is room for, at the start of an array, and answers how many.
 fn take_readings(bytes: &[u8], rows: &mut [u64]) -> usize
     ensures { λ r. ⌜ Counts r (now (rows .exit)) ⌝ }
 {
-    let n = least(bytes.len() / 8, rows.len());
     let mut i: usize = 0;
-    while i < n {
+    while i < rows.len() {
+        if bytes.len() / 8 <= i {
+            return i;
+        }
         rows[i] = reading_at(bytes, 8 * i);
         i += 1;
     }
-    n
+    i
 }
 
-// What a call comes to: number and fields of a refusal, or 0, series and points; and an answer's label bytes.
-struct Told {
-    number: usize,
-    first: usize,
-    second: usize,
-    bytes: usize,
-}
-
-fn refusal(number: usize, first: usize, second: usize) -> Told {
-    Told {
-        number,
-        first,
-        second,
-        bytes: 0,
+// Whether the result has the six numbers of a case's outcome.
+fn holds_numbers(result: &[u64; 6], case: &[u8]) -> bool {
+    let mut i: usize = 0;
+    while i < 6 {
+        if result[i] != number_at(case, 4 + 2 * i) as u64 {
+            return false;
+        }
+        i += 1;
     }
-}
-
-// An outcome in 01's numbers.
-fn numbers_of(outcome: Outcome) -> Told {
-    match outcome {
-        Outcome::Answer {
-            series,
-            points,
-            bytes,
-        } => Told {
-            number: 0,
-            first: series,
-            second: points,
-            bytes,
-        },
-        Outcome::BadOperator => refusal(1, 0, 0),
-        Outcome::Malformed => refusal(2, 0, 0),
-        Outcome::Cut { side, place } => refusal(3, side, place),
-        Outcome::BadKey { side, place } => refusal(4, side, place),
-        Outcome::Readings { side } => refusal(5, side, 0),
-        Outcome::Unequal => refusal(6, 0, 0),
-        Outcome::LeftTwice { kept, failed } => refusal(7, kept, failed),
-        Outcome::RightTwice { kept, failed } => refusal(8, kept, failed),
-        Outcome::TooLarge => refusal(9, 0, 0),
-        Outcome::TooLong => refusal(10, 0, 0),
-    }
-}
-
-fn same_told(a: Told, b: Told) -> bool {
-    a.number == b.number && a.first == b.first && a.second == b.second && a.bytes == b.bytes
+    true
 }
 
 // What the output parts are filled with.
@@ -184,7 +73,7 @@ fn holds_labels(labels: &[u8; 65535], want: &[u8]) -> bool {
         }
         i += 1;
     }
-    want.len() <= 65535
+    true
 }
 
 // Whether a reading part holds the readings wanted, bit for bit, and behind them the fill.
@@ -196,32 +85,29 @@ fn holds_readings(out: &[u64; 8192], want: &[u8]) -> bool {
         }
         i += 1;
     }
-    want.len() / 8 <= 8192
+    true
 }
 
-// Lengths of the output parts lent.
-struct Room {
-    labels: usize,
-    readings: usize,
-}
-
-// Whether a call comes to what is wanted, and leaves it in the output parts.
+// Whether a call comes to a case's outcome, and leaves it in output parts of the case's lengths.
 fn comes_to<'a>(
+    case: &[u8],
     query: &[u8],
     left_labels: &'a [u8],
     left: &[u64],
     right_labels: &'a [u8],
     right: &[u64],
-    room: Room,
-    want: Told,
     want_labels: &[u8],
     want_readings: &[u8],
 ) -> bool {
     let mut labels = [FILL_BYTE; 65535];
     let mut out = [FILL_READING; 8192];
-    let n = least(room.labels, 65535);
-    let m = least(room.readings, 8192);
-    let outcome = binop_vector_vector::exec_binop(
+    let mut result = [FILL_READING; 6];
+    let n = number_at(case, 0);
+    let m = number_at(case, 2);
+    if 8192 < m {
+        return false;
+    }
+    nosingcatnip::nosingcatnip_exec_binop(
         query,
         left_labels,
         left,
@@ -229,23 +115,21 @@ fn comes_to<'a>(
         right,
         &mut labels[..n],
         &mut out[..m],
+        &mut result,
     );
-    if same_told(numbers_of(outcome), want) {
-        holds_labels(&labels, want_labels) && holds_readings(&out, want_readings)
-    } else {
-        false
-    }
+    holds_numbers(&result, case)
+        && holds_labels(&labels, want_labels)
+        && holds_readings(&out, want_readings)
 }
 
 // The same, from the bytes of the readings.
 fn agrees<'a>(
+    case: &[u8],
     query: &[u8],
     left_labels: &'a [u8],
     left_bytes: &[u8],
     right_labels: &'a [u8],
     right_bytes: &[u8],
-    room: Room,
-    want: Told,
     want_labels: &[u8],
     want_readings: &[u8],
 ) -> bool {
@@ -254,106 +138,41 @@ fn agrees<'a>(
     let mut right = [0u64; 2048];
     let m = take_readings(right_bytes, &mut right);
     comes_to(
+        case,
         query,
         left_labels,
         &left[..n],
         right_labels,
         &right[..m],
-        room,
-        want,
         want_labels,
         want_readings,
     )
 }
 
-// A case that was run: the place behind it.
-struct Tried {
-    next: usize,
-    agrees: bool,
-}
-
-// Runs the query and the vectors at a place, and compares.
-fn run_at(
-    s: &[u8],
-    at: usize,
-    room: Room,
-    want: Told,
-    want_labels: &[u8],
-    want_readings: &[u8],
-) -> bool
-    requires { ⌜ at ≤ length (now s) ⌝ }
-{
-    let left = behind(s, at, 1);
-    let left_rows = behind(s, left, 1);
-    let right = behind(s, left_rows, 8);
-    let right_rows = behind(s, right, 1);
+// Whether a case agrees: its parts stand behind eight numbers.
+fn try_case(case: &[u8]) -> bool {
+    let query = part_at(case, 16);
+    let left_at = 18 + query.len();
+    let left_labels = part_at(case, left_at);
+    let left_rows_at = left_at + 2 + left_labels.len();
+    let left = part_at(case, left_rows_at);
+    let right_at = left_rows_at + 2 + left.len();
+    let right_labels = part_at(case, right_at);
+    let right_rows_at = right_at + 2 + right_labels.len();
+    let right = part_at(case, right_rows_at);
+    let labels_at = right_rows_at + 2 + right.len();
+    let labels = part_at(case, labels_at);
+    let readings = part_at(case, labels_at + 2 + labels.len());
     agrees(
-        part(s, at, 1),
-        part(s, left, 1),
-        part(s, left_rows, 8),
-        part(s, right, 1),
-        part(s, right_rows, 8),
-        room,
-        want,
-        want_labels,
-        want_readings,
+        case,
+        query,
+        left_labels,
+        left,
+        right_labels,
+        right,
+        labels,
+        readings,
     )
-}
-
-// The place behind the query and the vectors at a place.
-fn behind_vectors(s: &[u8], at: usize) -> usize
-    requires { ⌜ at ≤ length (now s) ⌝ }
-    ensures { λ r. ⌜ r ≤ length (now (s .entry)) ⌝ }
-{
-    let left = behind(s, at, 1);
-    let left_rows = behind(s, left, 1);
-    let right = behind(s, left_rows, 8);
-    let right_rows = behind(s, right, 1);
-    behind(s, right_rows, 8)
-}
-
-// The three numbers at a place, with an answer's label bytes.
-fn wanted_at(s: &[u8], at: usize, bytes: usize) -> Told
-    requires { ⌜ at ≤ length (now s) ⌝ }
-{
-    let first = ahead(s, at, 2);
-    let second = ahead(s, first, 2);
-    Told {
-        number: number_at(s, at),
-        first: number_at(s, first),
-        second: number_at(s, second),
-        bytes,
-    }
-}
-
-// Runs the case at a place, whose three numbers and the parts behind them are at two others.
-fn try_answer(s: &[u8], at: usize, want: usize, parts: usize, room: Room) -> Tried
-    requires { ⌜ at ≤ length (now s) ⌝ }
-    requires { ⌜ want ≤ length (now s) ⌝ }
-    requires { ⌜ parts ≤ length (now s) ⌝ }
-    ensures { λ r. ⌜ r .next ≤ length (now (s .entry)) ⌝ }
-{
-    let rows = behind(s, parts, 1);
-    let next = behind(s, rows, 8);
-    let labels = part(s, parts, 1);
-    let told = wanted_at(s, want, labels.len());
-    let agrees = run_at(s, at, room, told, labels, part(s, rows, 8));
-    Tried { next, agrees }
-}
-
-// Runs the case at a place, on output parts of such lengths.
-fn try_case(s: &[u8], at: usize, room: Room) -> Tried
-    requires { ⌜ at ≤ length (now s) ⌝ }
-    ensures { λ r. ⌜ r .next ≤ length (now (s .entry)) ⌝ }
-{
-    let want = behind_vectors(s, at);
-    let next = ahead(s, want, 6);
-    if number_at(s, want) == 0 {
-        return try_answer(s, at, want, next, room);
-    }
-    let told = wanted_at(s, want, 0);
-    let agrees = run_at(s, at, room, told, b"", b"");
-    Tried { next, agrees }
 }
 
 // 1 for a case that agrees; the number of any other is printed.
@@ -363,31 +182,33 @@ fn noted(k: usize, agrees: bool) -> usize
     if agrees {
         return 1;
     }
-    print(b"differs: ");
+    print(b"differs:");
     print_number(k);
     print(b"\n");
     0
 }
 
-fn run_sample(s: &[u8]) {
+fn print_sample(count: usize, agreed: usize) {
+    io::print_decimal(STDOUT_FILENO, count as u64);
+    print(b" cases of the sample,");
+    print_number(agreed);
+    print(b" agree\n");
+}
+
+// Runs the sample, and answers the place behind it.
+fn run_sample(s: &[u8]) -> usize {
     let count = number_at(s, 0);
-    let mut p = ahead(s, 0, 2);
+    let mut p: usize = 2;
     let mut agreed: usize = 0;
     let mut k: usize = 0;
     while k < count {
-        let room = Room {
-            labels: 65535,
-            readings: 8192,
-        };
-        let t = try_case(s, p, room);
-        agreed += noted(k, t.agrees);
-        p = t.next;
+        let case = part_at(s, p);
+        agreed += noted(k, try_case(case));
+        p += 2 + case.len();
         k += 1;
     }
-    print_number(count);
-    print(b" cases of the sample, ");
-    print_number(agreed);
-    print(b" agree\n");
+    print_sample(count, agreed);
+    p
 }
 
 fn print_verdict(agrees: bool) {
@@ -398,47 +219,25 @@ fn print_verdict(agrees: bool) {
     }
 }
 
-// Runs the example at a place, prints its name, and answers the place behind it.
-fn run_example(s: &[u8], at: usize) -> usize
-    requires { ⌜ at ≤ length (now s) ⌝ }
-    ensures { λ r. ⌜ r ≤ length (now (s .entry)) ⌝ }
-{
-    let labels = behind(s, at, 1);
-    let readings = ahead(s, labels, 2);
-    let case = ahead(s, readings, 2);
-    let room = Room {
-        labels: number_at(s, labels),
-        readings: number_at(s, readings),
-    };
-    let t = try_case(s, case, room);
-    print(part(s, at, 1));
-    print_verdict(t.agrees);
-    t.next
-}
-
-fn run_examples(s: &[u8]) {
-    let count = number_at(s, 0);
-    let mut p = ahead(s, 0, 2);
-    let mut k: usize = 0;
-    while k < count {
-        p = run_example(s, p);
-        k += 1;
+// Runs the examples from a place on.
+fn run_examples(s: &[u8], start: usize) {
+    let mut p = start;
+    while p < s.len() {
+        let name = part_at(s, p);
+        let case_at = p + 2 + name.len();
+        let case = part_at(s, case_at);
+        print(name);
+        print_verdict(try_case(case));
+        p = case_at + 2 + case.len();
     }
 }
 
-fn sample() {
-    let mut input = [0u8; 262144];
-    let n = io::read_full(os::open_read(b"cases.bin"), &mut input);
-    run_sample(&input[..n]);
-}
-
-fn examples() {
-    let mut input = [0u8; 262144];
-    let n = io::read_full(os::open_read(b"examples.bin"), &mut input);
-    run_examples(&input[..n]);
+fn run(s: &[u8]) {
+    run_examples(s, run_sample(s));
 }
 
 fn main() {
-    sample();
-    examples();
+    let mut input = [0u8; 262144];
+    let n = io::read_full(STDIN_FILENO, &mut input);
+    run(&input[..n]);
 }

@@ -100,30 +100,38 @@ pub fn text(cases: &[(Call, Outcome)]) -> String {
 
 pub fn binary(cases: &[(Call, Outcome)]) -> Vec<u8> {
     let mut out = Vec::new();
-    let put_bytes = |out: &mut Vec<u8>, bytes: &[u8]| {
-        out.extend_from_slice(&(bytes.len() as u16).to_le_bytes());
-        out.extend_from_slice(bytes);
-    };
-    let put_words = |out: &mut Vec<u8>, words: &[u64]| {
-        out.extend_from_slice(&(words.len() as u16).to_le_bytes());
-        words.iter().for_each(|w| out.extend_from_slice(&w.to_le_bytes()));
-    };
-    out.extend_from_slice(&(cases.len() as u16).to_le_bytes());
+    put_number(&mut out, cases.len() as u64);
     for (c, outcome) in cases {
-        put_bytes(&mut out, &c.query);
-        put_bytes(&mut out, &c.left_labels);
-        put_words(&mut out, &c.left);
-        put_bytes(&mut out, &c.right_labels);
-        put_words(&mut out, &c.right);
-        let [number, first, second] =
-            outcome.as_ref().map_or_else(|r| [r.number, r.fields[0], r.fields[1]], |a| [0, a.series as u64, a.points as u64]);
-        for n in [number, first, second] {
-            out.extend_from_slice(&(n as u16).to_le_bytes());
-        }
-        if let Ok(a) = outcome {
-            put_bytes(&mut out, &a.labels);
-            put_words(&mut out, &a.readings);
-        }
+        put_part(&mut out, &case(c, outcome));
     }
     out
+}
+
+fn case(c: &Call, outcome: &Outcome) -> Vec<u8> {
+    let numbers = match outcome {
+        Err(r) => [r.number, r.fields[0], r.fields[1], 0, 0, 0],
+        Ok(a) => [0, 0, 0, a.series as u64, a.points as u64, a.labels.len() as u64],
+    };
+    let (labels, readings) = outcome.as_ref().map_or((&[][..], &[][..]), |a| (&a.labels[..], &a.readings[..]));
+    let mut out = Vec::new();
+    for n in [c.room.labels as u64, c.room.readings as u64].into_iter().chain(numbers) {
+        put_number(&mut out, n);
+    }
+    for part in [&c.query, &c.left_labels, &bytes(&c.left), &c.right_labels, &bytes(&c.right), labels, &bytes(readings)] {
+        put_part(&mut out, part);
+    }
+    out
+}
+
+fn bytes(readings: &[u64]) -> Vec<u8> {
+    readings.iter().flat_map(|r| r.to_le_bytes()).collect()
+}
+
+fn put_number(out: &mut Vec<u8>, n: u64) {
+    out.extend_from_slice(&u16::try_from(n).expect("a number of two bytes").to_le_bytes());
+}
+
+fn put_part(out: &mut Vec<u8>, part: &[u8]) {
+    put_number(out, part.len() as u64);
+    out.extend_from_slice(part);
 }

@@ -1,45 +1,48 @@
 -- `replay::comes_to` meets its contract. Assumes nothing.
 use borrow.Author.Needs.{needs}
-use mathlib.Core.Path.{sym}
+use Prim.Native.Nat.{ℕ, _≤_}
+use mathlib.Core.Path.{_≡_, sym}
+use lib.ListN.{length, take, replicate, length-replicate}
 use lib.Seq.{length-take-le}
 use Rattle.replay.proofs.comes_to.Statement.{statement}
 use Rattle.replay.proofs.comes_to.Tie as tie
 
-least-requires : tie.Need-least-requires
-least-requires c κs = search needs
+-- the length is not computed
+length-prefix : (n m a : ℕ) → n ≤ m → n ≡ length (take n (replicate m a))
+length-prefix n m a h = sym (length-take-le n (replicate m a) (rw length-replicate h))
 
-least-requires-2 : tie.Need-least-requires-2
-least-requires-2 c κs = search needs
+number-at-requires : tie.Need-number-at-requires
+number-at-requires c κs = search needs
+
+number-at-requires-2 : tie.Need-number-at-requires-2
+number-at-requires-2 c κs = search needs
+
+returns : tie.Need-returns
+returns c = search needs
 
 array-borrow-prefix-labels : tie.Need-array-borrow-prefix-labels
 array-borrow-prefix-labels c = search needs
 
-slice-aggregate-exec-binop : tie.Need-slice-aggregate-exec-binop
-slice-aggregate-exec-binop c = sym (length-take-le _ _ (search needs))
+slice-aggregate-nosingcatnip-exec-binop : tie.Need-slice-aggregate-nosingcatnip-exec-binop
+slice-aggregate-nosingcatnip-exec-binop c = length-prefix _ 65535 187 (search needs)
 
 array-borrow-prefix-out : tie.Need-array-borrow-prefix-out
 array-borrow-prefix-out c = search needs
 
-slice-aggregate-exec-binop-2 : tie.Need-slice-aggregate-exec-binop-2
-slice-aggregate-exec-binop-2 c = sym (length-take-le _ _ (search needs))
+slice-aggregate-nosingcatnip-exec-binop-2 : tie.Need-slice-aggregate-nosingcatnip-exec-binop-2
+slice-aggregate-nosingcatnip-exec-binop-2 c = length-prefix _ 8192 13527612320720337851 (search needs)
 
-exec-binop-requires : tie.Need-exec-binop-requires
-exec-binop-requires c κs = search needs
+nosingcatnip-exec-binop-requires : tie.Need-nosingcatnip-exec-binop-requires
+nosingcatnip-exec-binop-requires c κs = search needs
 
-numbers-of-requires : tie.Need-numbers-of-requires
-numbers-of-requires c κs = search needs
-
-same-told-requires : tie.Need-same-told-requires
-same-told-requires c κs = search needs
+holds-numbers-requires : tie.Need-holds-numbers-requires
+holds-numbers-requires c κs = search needs
 
 holds-labels-requires : tie.Need-holds-labels-requires
 holds-labels-requires c κs = search needs
 
 holds-readings-requires : tie.Need-holds-readings-requires
 holds-readings-requires c κs = search needs
-
-returns : tie.Need-returns
-returns c = search needs
 
 returns-2 : tie.Need-returns-2
 returns-2 c = search needs
@@ -51,17 +54,16 @@ pub comes-to-spec : {M : Type 1} → statement M
 comes-to-spec =
     tie.close
     (tie.spec
-    least-requires
-    least-requires-2
+    number-at-requires
+    number-at-requires-2
+    returns
     array-borrow-prefix-labels
-    slice-aggregate-exec-binop
+    slice-aggregate-nosingcatnip-exec-binop
     array-borrow-prefix-out
-    slice-aggregate-exec-binop-2
-    exec-binop-requires
-    numbers-of-requires
-    same-told-requires
+    slice-aggregate-nosingcatnip-exec-binop-2
+    nosingcatnip-exec-binop-requires
+    holds-numbers-requires
     holds-labels-requires
     holds-readings-requires
-    returns
     returns-2
     returns-3)

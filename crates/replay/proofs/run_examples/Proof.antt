@@ -1,36 +1,51 @@
 -- `replay::run_examples` meets its contract. Assumes nothing.
 use borrow.Author.Needs.{needs}
-use Prim.Native.Nat.{_≤_, _-_}
+use Prim.Native.Nat.{_-_}
 use lib.ListN.{length}
 use Rattle.replay.proofs.run_examples.Statement.{statement}
 use Rattle.replay.proofs.run_examples.Tie as tie
 
 abbrev Inv-loop : tie.InvT-loop
-Inv-loop s count p₀ k₀ p k = (k ≤ count) × (p ≤ length s)
+Inv-loop s start p₀ p = Unit {0}
 
 abbrev μ-loop : tie.MeasureT-loop
-μ-loop s count p₀ k₀ p k = count - k
-
-number-at-requires : tie.Need-number-at-requires Inv-loop μ-loop
-number-at-requires c κs = search needs
-
-ahead-requires : tie.Need-ahead-requires Inv-loop μ-loop
-ahead-requires c κs = search needs
+μ-loop s start p₀ p = length s - p
 
 loop-holds : tie.Need-loop-holds Inv-loop μ-loop
-loop-holds c = search needs
+loop-holds c = tt
 
-run-example-requires : tie.Need-run-example-requires Inv-loop μ-loop
-run-example-requires c κs = search needs
+part-at-requires : tie.Need-part-at-requires Inv-loop μ-loop
+part-at-requires c κs = search needs
 
-add-k : tie.Need-add-k Inv-loop μ-loop
-add-k c = search needs
+add-case-at : tie.Need-add-case-at Inv-loop μ-loop
+add-case-at c = search needs
+
+add-case-at-2 : tie.Need-add-case-at-2 Inv-loop μ-loop
+add-case-at-2 c = search needs
+
+part-at-requires-2 : tie.Need-part-at-requires-2 Inv-loop μ-loop
+part-at-requires-2 c κs = search needs
+
+print-requires : tie.Need-print-requires Inv-loop μ-loop
+print-requires c κs = search needs
+
+try-case-requires : tie.Need-try-case-requires Inv-loop μ-loop
+try-case-requires c κs = search needs
+
+print-verdict-requires : tie.Need-print-verdict-requires Inv-loop μ-loop
+print-verdict-requires c κs = search needs
+
+add-p : tie.Need-add-p Inv-loop μ-loop
+add-p c = search needs
+
+add-p-2 : tie.Need-add-p-2 Inv-loop μ-loop
+add-p-2 c = search needs
 
 loop-less : tie.Need-loop-less Inv-loop μ-loop
 loop-less c = search needs
 
 loop-again : tie.Need-loop-again Inv-loop μ-loop
-loop-again c = search needs
+loop-again c = tt
 
 returns : tie.Need-returns Inv-loop μ-loop
 returns c = search needs
@@ -41,11 +56,16 @@ run-examples-spec =
     (tie.spec
     Inv-loop
     μ-loop
-    number-at-requires
-    ahead-requires
     loop-holds
-    run-example-requires
-    add-k
+    part-at-requires
+    add-case-at
+    add-case-at-2
+    part-at-requires-2
+    print-requires
+    try-case-requires
+    print-verdict-requires
+    add-p
+    add-p-2
     loop-less
     loop-again
     returns)

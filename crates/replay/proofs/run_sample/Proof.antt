@@ -1,24 +1,23 @@
 -- `replay::run_sample` meets its contract. Assumes nothing.
 use borrow.Author.Needs.{needs}
-use Prim.Native.Nat.{_≤_, _-_}
-use lib.ListN.{length}
+use Prim.Native.Nat.{_+_, _*_, _-_, _≤_}
 use Rattle.replay.proofs.run_sample.Statement.{statement}
 use Rattle.replay.proofs.run_sample.Tie as tie
 
 abbrev Inv-loop : tie.InvT-loop
-Inv-loop s count p₀ agreed₀ k₀ t8 t9 p agreed k = (k ≤ count) × ((agreed ≤ k) × (p ≤ length s))
+Inv-loop s count p₀ agreed₀ k₀ p agreed k = (k ≤ count) × ((agreed ≤ k) × (p ≤ 2 + 65537 * k))
 
 abbrev μ-loop : tie.MeasureT-loop
-μ-loop s count p₀ agreed₀ k₀ t8 t9 p agreed k = count - k
+μ-loop s count p₀ agreed₀ k₀ p agreed k = count - k
 
 number-at-requires : tie.Need-number-at-requires Inv-loop μ-loop
 number-at-requires c κs = search needs
 
-ahead-requires : tie.Need-ahead-requires Inv-loop μ-loop
-ahead-requires c κs = search needs
-
 loop-holds : tie.Need-loop-holds Inv-loop μ-loop
 loop-holds c = search needs
+
+part-at-requires : tie.Need-part-at-requires Inv-loop μ-loop
+part-at-requires c κs = search needs
 
 try-case-requires : tie.Need-try-case-requires Inv-loop μ-loop
 try-case-requires c κs = search needs
@@ -29,6 +28,12 @@ noted-requires c κs = search needs
 add-agreed : tie.Need-add-agreed Inv-loop μ-loop
 add-agreed c = search needs
 
+add-p : tie.Need-add-p Inv-loop μ-loop
+add-p c = search needs
+
+add-p-2 : tie.Need-add-p-2 Inv-loop μ-loop
+add-p-2 c = search needs
+
 add-k : tie.Need-add-k Inv-loop μ-loop
 add-k c = search needs
 
@@ -38,23 +43,8 @@ loop-less c = search needs
 loop-again : tie.Need-loop-again Inv-loop μ-loop
 loop-again c = search needs
 
-print-number-requires : tie.Need-print-number-requires Inv-loop μ-loop
-print-number-requires c κs = search needs
-
-slice-aggregate-print : tie.Need-slice-aggregate-print Inv-loop μ-loop
-slice-aggregate-print c = search needs
-
-print-requires : tie.Need-print-requires Inv-loop μ-loop
-print-requires c κs = search needs
-
-print-number-requires-2 : tie.Need-print-number-requires-2 Inv-loop μ-loop
-print-number-requires-2 c κs = search needs
-
-slice-aggregate-print-2 : tie.Need-slice-aggregate-print-2 Inv-loop μ-loop
-slice-aggregate-print-2 c = search needs
-
-print-requires-2 : tie.Need-print-requires-2 Inv-loop μ-loop
-print-requires-2 c κs = search needs
+print-sample-requires : tie.Need-print-sample-requires Inv-loop μ-loop
+print-sample-requires c κs = search needs
 
 returns : tie.Need-returns Inv-loop μ-loop
 returns c = search needs
@@ -66,18 +56,15 @@ run-sample-spec =
     Inv-loop
     μ-loop
     number-at-requires
-    ahead-requires
     loop-holds
+    part-at-requires
     try-case-requires
     noted-requires
     add-agreed
+    add-p
+    add-p-2
     add-k
     loop-less
     loop-again
-    print-number-requires
-    slice-aggregate-print
-    print-requires
-    print-number-requires-2
-    slice-aggregate-print-2
-    print-requires-2
+    print-sample-requires
     returns)

@@ -9,16 +9,19 @@ use Rattle.replay.proofs.take_readings.Statement.{statement}
 use Rattle.replay.proofs.take_readings.Tie as tie
 
 abbrev Inv-loop : tie.InvT-loop
-Inv-loop bytes rows₀ n i₀ rows i = (i ≤ n) × (length rows ≡ length rows₀)
+Inv-loop bytes rows₀ i₀ rows i = (i ≤ length rows) × (length rows ≡ length rows₀)
 
 abbrev μ-loop : tie.MeasureT-loop
-μ-loop bytes rows₀ n i₀ rows i = n - i
-
-least-requires : tie.Need-least-requires Inv-loop μ-loop
-least-requires c κs = search needs
+μ-loop bytes rows₀ i₀ rows i = length rows₀ - i
 
 loop-holds : tie.Need-loop-holds Inv-loop μ-loop
 loop-holds c = search needs
+
+same-length : tie.Need-same-length Inv-loop μ-loop
+same-length c = search needs
+
+returns : tie.Need-returns Inv-loop μ-loop
+returns c = (omega arith, sym (length-take-le _ _ (omega arith)))
 
 mul-reading-at : tie.Need-mul-reading-at Inv-loop μ-loop
 mul-reading-at c = search needs
@@ -39,13 +42,13 @@ loop-less : tie.Need-loop-less Inv-loop μ-loop
 loop-less c = search needs
 
 loop-again : tie.Need-loop-again Inv-loop μ-loop
-loop-again c = (omega arith, simp length-set (c .before .before .loop .inv .1))
+loop-again c = simp length-set (omega arith)
 
-same-length : tie.Need-same-length Inv-loop μ-loop
-same-length c = search needs
+same-length-2 : tie.Need-same-length-2 Inv-loop μ-loop
+same-length-2 c = search needs
 
-returns : tie.Need-returns Inv-loop μ-loop
-returns c = (omega arith, sym (length-take-le _ _ (omega arith)))
+returns-2 : tie.Need-returns-2 Inv-loop μ-loop
+returns-2 c = (omega arith, sym (length-take-le _ _ (omega arith)))
 
 pub take-readings-spec : {M : Type 1} → statement M
 take-readings-spec =
@@ -53,8 +56,9 @@ take-readings-spec =
     (tie.spec
     Inv-loop
     μ-loop
-    least-requires
     loop-holds
+    same-length
+    returns
     mul-reading-at
     reading-at-requires
     mul-rows
@@ -62,5 +66,5 @@ take-readings-spec =
     add-i
     loop-less
     loop-again
-    same-length
-    returns)
+    same-length-2
+    returns-2)
