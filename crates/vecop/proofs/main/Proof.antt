@@ -1,23 +1,53 @@
--- `vecop::main` meets its contract. Assumes nothing.
-use borrow.Author.Needs.{needs}
+-- `vecop::main` meets its contract. The lengths of the buffers are cited: a search would compute them. Assumes nothing.
 use mathlib.Core.Path.{sym}
 use Prim.Native.Nat.{ℕ}
 use native.Mathlib.Nat.{le-of-eq}
 use lib.ListN.{length-replicate}
+use Rattle.vecop_run.proofs.Parts.{words-within, words-measured}
 use Rattle.vecop.proofs.main.Statement.{statement}
 use Rattle.vecop.proofs.main.Tie as tie
 
-slice-aggregate-run : tie.Need-slice-aggregate-run
-slice-aggregate-run c = sym (length-replicate {A = ℕ} 65537 0)
+slice-aggregate-read-full : tie.Need-slice-aggregate-read-full
+slice-aggregate-read-full c = sym (length-replicate {A = ℕ} 65537 0)
 
-slice-aggregate-run-2 : tie.Need-slice-aggregate-run-2
-slice-aggregate-run-2 c = sym (length-replicate {A = ℕ} 335918 0)
+read-full-requires : tie.Need-read-full-requires
+read-full-requires c κs = tt
 
-run-requires : tie.Need-run-requires
-run-requires c κs = le-of-eq (sym (length-replicate {A = ℕ} 335918 0))
+array-share-prefix-input : tie.Need-array-share-prefix-input
+array-share-prefix-input c = c .before .read-full .ensures .0
+
+slice-aggregate-vecop : tie.Need-slice-aggregate-vecop
+slice-aggregate-vecop c = c .before .before .read-full .ensures .1
+
+slice-aggregate-vecop-2 : tie.Need-slice-aggregate-vecop-2
+slice-aggregate-vecop-2 c = sym (length-replicate {A = ℕ} 335918 0)
+
+vecop-requires : tie.Need-vecop-requires
+vecop-requires c κs = le-of-eq (sym (length-replicate {A = ℕ} 335918 0))
+
+array-share-prefix-text : tie.Need-array-share-prefix-text
+array-share-prefix-text c = words-within _ _ _ _ (c .before .vecop .ensures)
+
+slice-aggregate-write-all : tie.Need-slice-aggregate-write-all
+slice-aggregate-write-all c = words-measured _ _ _ _ (c .before .before .vecop .ensures)
+
+write-all-requires : tie.Need-write-all-requires
+write-all-requires c κs = tt
 
 returns : tie.Need-returns
-returns c = search needs
+returns c = tt
 
 pub main-spec : {M : Type 1} → statement M
-main-spec = tie.close (tie.spec slice-aggregate-run slice-aggregate-run-2 run-requires returns)
+main-spec =
+    tie.close
+    (tie.spec
+    slice-aggregate-read-full
+    read-full-requires
+    array-share-prefix-input
+    slice-aggregate-vecop
+    slice-aggregate-vecop-2
+    vecop-requires
+    array-share-prefix-text
+    slice-aggregate-write-all
+    write-all-requires
+    returns)
