@@ -1,5 +1,5 @@
 #!/usr/bin/env python3
-"""Writes crates/test_vecop/stdin and stdout: inputs of `vecop`, each after its length (3 bytes), and what docs/01-scope.md says that it
+"""Writes crates/test_vecop/stdin and stdout: inputs of `vecop`, each after its length (4 bytes), and what docs/01-scope.md says that it
 prints for each, worked out by hand here. Run it in the repository."""
 import struct
 
@@ -202,7 +202,7 @@ unreadable(largest(65537)[0])
 
 with open('crates/test_vecop/stdin', 'wb') as out:
     for given, _ in CASES:
-        out.write(struct.pack('<I', len(given))[:3] + given)
+        out.write(struct.pack('<I', len(given)) + given)
 with open('crates/test_vecop/stdout', 'wb') as out:
     for _, text in CASES:
         out.write(text)
