@@ -195,22 +195,6 @@ fn print_sample(count: usize, agreed: usize) {
     print(b" agree\n");
 }
 
-// Runs the sample, and answers the place behind it.
-fn run_sample(s: &[u8]) -> usize {
-    let count = number_at(s, 0);
-    let mut p: usize = 2;
-    let mut agreed: usize = 0;
-    let mut k: usize = 0;
-    while k < count {
-        let case = part_at(s, p);
-        agreed += noted(k, try_case(case));
-        p += 2 + case.len();
-        k += 1;
-    }
-    print_sample(count, agreed);
-    p
-}
-
 fn print_verdict(agrees: bool) {
     if agrees {
         print(b": agrees\n")
@@ -232,8 +216,20 @@ fn run_examples(s: &[u8], start: usize) {
     }
 }
 
+// Runs the sample, then the examples behind it.
 fn run(s: &[u8]) {
-    run_examples(s, run_sample(s));
+    let count = number_at(s, 0);
+    let mut p: usize = 2;
+    let mut agreed: usize = 0;
+    let mut k: usize = 0;
+    while k < count {
+        let case = part_at(s, p);
+        agreed += noted(k, try_case(case));
+        p += 2 + case.len();
+        k += 1;
+    }
+    print_sample(count, agreed);
+    run_examples(s, p);
 }
 
 fn main() {

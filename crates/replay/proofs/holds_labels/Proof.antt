@@ -17,7 +17,7 @@ element-copy-out-if1 : tie.Need-element-copy-out-if1 Inv-loop μ-loop
 element-copy-out-if1 c = search needs
 
 byte-or-fill-requires : tie.Need-byte-or-fill-requires Inv-loop μ-loop
-byte-or-fill-requires c κs = search needs
+byte-or-fill-requires c κs = tt
 
 returns : tie.Need-returns Inv-loop μ-loop
 returns c = search needs

@@ -26,7 +26,7 @@ add-number-at : tie.Need-add-number-at Inv-loop μ-loop
 add-number-at c = search needs
 
 number-at-requires : tie.Need-number-at-requires Inv-loop μ-loop
-number-at-requires c κs = search needs
+number-at-requires c κs = tt
 
 returns : tie.Need-returns Inv-loop μ-loop
 returns c = search needs

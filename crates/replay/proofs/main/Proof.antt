@@ -1,4 +1,4 @@
--- `replay::main` meets its contract. Assumes nothing.
+-- `replay::main` meets its contract. The length of the buffer is cited: a search would compute it. Assumes nothing.
 use Prim.Native.Nat.{ℕ}
 use mathlib.Core.Path.{sym}
 use lib.ListN.{length-replicate}

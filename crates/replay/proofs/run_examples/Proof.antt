@@ -15,7 +15,7 @@ loop-holds : tie.Need-loop-holds Inv-loop μ-loop
 loop-holds c = tt
 
 part-at-requires : tie.Need-part-at-requires Inv-loop μ-loop
-part-at-requires c κs = search needs
+part-at-requires c κs = tt
 
 add-case-at : tie.Need-add-case-at Inv-loop μ-loop
 add-case-at c = search needs
@@ -24,16 +24,16 @@ add-case-at-2 : tie.Need-add-case-at-2 Inv-loop μ-loop
 add-case-at-2 c = search needs
 
 part-at-requires-2 : tie.Need-part-at-requires-2 Inv-loop μ-loop
-part-at-requires-2 c κs = search needs
+part-at-requires-2 c κs = tt
 
 print-requires : tie.Need-print-requires Inv-loop μ-loop
-print-requires c κs = search needs
+print-requires c κs = tt
 
 try-case-requires : tie.Need-try-case-requires Inv-loop μ-loop
-try-case-requires c κs = search needs
+try-case-requires c κs = tt
 
 print-verdict-requires : tie.Need-print-verdict-requires Inv-loop μ-loop
-print-verdict-requires c κs = search needs
+print-verdict-requires c κs = tt
 
 add-p : tie.Need-add-p Inv-loop μ-loop
 add-p c = search needs
