@@ -65,7 +65,7 @@ def line(word, row):
 
 def operator(op, as_bool, l, r):
     row = [scalar(op, as_bool, x, y) for x, y in zip(l, r)]
-    case(0, op, as_bool, l, r, line('points', row), line('rows', row))
+    case(0, op, as_bool, l, r, line('rows', row))
 
 
 def merge(allowance, d, s):
@@ -76,7 +76,7 @@ def merge(allowance, d, s):
         answer = line('overlapping', d)
     else:
         answer = line('done', [x if missing(y) else y for x, y in zip(d, s)])
-    case(5, allowance, 0, d, s, answer)
+    case(1, allowance, 0, d, s, answer)
 
 
 def row(*xs):
@@ -110,16 +110,6 @@ def anything():
 left, right = [anything() for _ in range(1024)], [anything() for _ in range(1024)]
 operator(9, 0, left[:300], right[:300])
 operator(7, 0, [], [])
-
-# the set rules against one right row
-some = random.sample(pairs, 150)
-l, r = [x for x, _ in some], [y for _, y in some]
-case(1, 0, 0, l, r, line('if', [N if missing(y) else x for x, y in some]))
-case(2, 0, 0, l, r, line('ifnot', [x if missing(y) else N for x, y in some]))
-case(3, 0, 0, l, r, line('default', [y if missing(x) and not missing(y) else x for x, y in some]))
-
-for readings in ([], [N], [0xfff0000000abcdef, 0x7ff0000000000001], [0x7ff0000000000000], [N, N, 1 << 63], row(None, None, None, 0)):
-    case(4, 0, 0, readings, [], 'only missing' if all(map(missing, readings)) else 'a reading')
 
 # merging: 01's examples, p of 0, 1, 2, 3 and 1,024, unequal lengths, 0 to 4 overlaps under each allowance
 merge(2, row(1, None, 3, None), row(None, 2, None, 4))

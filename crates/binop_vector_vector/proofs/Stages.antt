@@ -26,7 +26,7 @@ use Rattle.answers.specs.declared.Outcome.{Outcome}
 use Rattle.answers.specs.declared.Outcome.the-variants as Out
 use Rattle.answers.specs.Outcomes.{Ran}
 use Rattle.keyed_sides.specs.Lent.{LentSide, lentVector, bytes-of, readings-of, lent-vector, lent-side}
-use Rattle.dispatch.specs.Runs.{Asked, ranOver}
+use Rattle.binop_vector_vector.specs.dispatch.Runs.{Asked, ranOver}
 use Rattle.binop_vector_vector.specs.Stages.{asked-carried, leftStage, call-asked, call-operator, call-malformed}
 
 -- a query, taken or refused

@@ -1,4 +1,8 @@
 // A query run over two vectors: both are taken, their keys numbered, and the operator's rule run.
+mod dispatch; // the rule of an operator over both sides
+mod set_operators; // `and`, `or`, `unless`
+mod fallback_operators; // `if`, `ifnot`, `default`, with a scalar right side to fall back to
+
 use answers::Outcome;
 use query::Query;
 use query::Request;
@@ -10,7 +14,7 @@ ghost use Rattle.query.specs.Queries.{queryOf};
 ghost use Rattle.semantics.specs.Call.{call, running};
 ghost use Rattle.answers.specs.Outcomes.{Ran};
 ghost use Rattle.keyed_sides.specs.Lent.{LentSide, lentVector};
-ghost use Rattle.dispatch.specs.Runs.{Asked, ranOver};
+ghost use Rattle.binop_vector_vector.specs.dispatch.Runs.{Asked, ranOver};
 ghost use Rattle.binop_vector_vector.specs.Stages.{leftStage, rightStage};
 
 // Both sides are taken and have the same points; with room for their keys.

@@ -1,5 +1,5 @@
 -- The parts of a stored case. Assumes nothing.
-use Prim.Native.Nat.{ℕ, _+_, _≤_}
+use Prim.Native.Nat.{ℕ, _+_, _*_, _≤_}
 use mathlib.Core.Path.{_≡_}
 use mathlib.Core.List.{List}
 use lib.ListN.{length, take, drop}
@@ -18,3 +18,7 @@ partAt s at = take (twoBytesAt s at) (drop (at + 2) s)
 pub record PartAt (s : List ℕ) (at : ℕ) (r : List ℕ) : Type 0 where
   pub bytes : r ≡ partAt s at
   pub small : length r ≤ 65535
+
+-- the reading in the eight bytes at a place, the low one first
+abbrev pub readingAt : List ℕ → ℕ → ℕ
+readingAt s at = twoBytesAt s at + 65536 * twoBytesAt s (at + 2) + 4294967296 * (twoBytesAt s (at + 4) + 65536 * twoBytesAt s (at + 6))

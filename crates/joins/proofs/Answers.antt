@@ -25,14 +25,14 @@ use Rattle.answers.specs.Outcomes.{Ran}
 use Rattle.answers.specs.Tallies.{recordsOf, TallyOf, roomOf}
 use Rattle.answers.proofs.Tallies.{records-fit, rows-fit}
 use Rattle.answers.proofs.Concluding.{ran-too-large, ran-too-long, ran-answer}
-use Rattle.lead_marks.specs.Lent.{Lent, joined-labels}
-use Rattle.lead_marks.proofs.Marking.{labels-here}
-use Rattle.join_rows.specs.declared.Work.{Work}
-use Rattle.join_rows.specs.Sides.{JoinLent, sidesOf}
-use Rattle.join_rows.specs.Codes.{sideOf, CodeIn, rowLabels}
-use Rattle.join_plan.proofs.Planning.{two-overlaps}
-use Rattle.join_labels.specs.Records.{Records, RecordsIn}
-use Rattle.join_readings.specs.Readings.{mergesAt, codeReadings, JoinAsked}
+use Rattle.joins.specs.lead_marks.Lent.{Lent, joined-labels}
+use Rattle.joins.proofs.lead_marks.Marking.{labels-here}
+use Rattle.joins.specs.declared.join_rows.Work.{Work}
+use Rattle.joins.specs.join_rows.Sides.{JoinLent, sidesOf}
+use Rattle.joins.specs.join_rows.Codes.{sideOf, CodeIn, rowLabels}
+use Rattle.joins.proofs.join_plan.Planning.{two-overlaps}
+use Rattle.joins.specs.join_labels.Records.{Records, RecordsIn}
+use Rattle.joins.specs.join_readings.Readings.{mergesAt, codeReadings, JoinAsked}
 use Rattle.joins.specs.Joined.{WorkOf, pointsOf, AnswerRoom, AnswerPut, Answered}
 
 -- the records of codes

@@ -22,12 +22,12 @@ use Rattle.plan.specs.Merging.{RowMerge, row, failedAt, mergeLead, rowOf, clash
 use Rattle.plan.specs.Joins.{leadsOf, leadsClash, leadRows, rowCode, joinClash, joinRowsFrom}
 use Rattle.record_tags.specs.Lenient.{labelsOf}
 use Rattle.side_parts.specs.Sides.{recordAt, labelsIn}
-use Rattle.lead_marks.proofs.Leaders.{leads-among-long}
-use Rattle.lead_marks.proofs.Marking.{labels-long, labels-here}
-use Rattle.join_rows.specs.Sides.{JoinLent, sidesOf}
-use Rattle.join_rows.specs.Codes.{CodeIn}
-use Rattle.join_plan.proofs.Planning.{two-overlaps}
-use Rattle.join_readings.specs.Readings.{leadsAt, mergesAt}
+use Rattle.joins.proofs.lead_marks.Leaders.{leads-among-long}
+use Rattle.joins.proofs.lead_marks.Marking.{labels-long, labels-here}
+use Rattle.joins.specs.join_rows.Sides.{JoinLent, sidesOf}
+use Rattle.joins.specs.join_rows.Codes.{CodeIn}
+use Rattle.joins.proofs.join_plan.Planning.{two-overlaps}
+use Rattle.joins.specs.join_readings.Readings.{leadsAt, mergesAt}
 
 -- lists
 

@@ -21,17 +21,17 @@ use Rattle.answers.specs.declared.Outcome.the-variants as Out
 use Rattle.answers.specs.Outcomes.{Ran}
 use Rattle.answers.proofs.Concluding.{ran-left-twice, ran-right-twice, ran-without-clash, ran-too-many}
 use Rattle.end_codes.specs.Codes.{SideEnds}
-use Rattle.lead_marks.specs.Lent.{ListedBy}
+use Rattle.joins.specs.lead_marks.Lent.{ListedBy}
 use Rattle.noting.specs.Places.{NotedAll}
 use Rattle.noting.proofs.Noting.{noted-front}
-use Rattle.lead_marks.proofs.Marking.{someone}
-use Rattle.join_rows.specs.declared.Work.{Work}
-use Rattle.join_rows.specs.Sides.{JoinLent, sidesOf}
-use Rattle.join_rows.specs.Codes.{sideOf}
-use Rattle.join_plan.specs.declared.Plan.{Plan}
-use Rattle.join_plan.specs.declared.Plan.the-variants.{Rows, Failed}
-use Rattle.join_plan.specs.Plans.{Planned}
-use Rattle.join_readings.specs.Readings.{CodesAsked, JoinAsked}
+use Rattle.joins.proofs.lead_marks.Marking.{someone}
+use Rattle.joins.specs.declared.join_rows.Work.{Work}
+use Rattle.joins.specs.join_rows.Sides.{JoinLent, sidesOf}
+use Rattle.joins.specs.join_rows.Codes.{sideOf}
+use Rattle.joins.specs.declared.join_plan.Plan.{Plan}
+use Rattle.joins.specs.declared.join_plan.Plan.the-variants.{Rows, Failed}
+use Rattle.joins.specs.join_plan.Plans.{Planned}
+use Rattle.joins.specs.join_readings.Readings.{CodesAsked, JoinAsked}
 use Rattle.joins.specs.Joined.{pointsOf, Answered, RowsPlanned, oneTwice, Joined}
 use Rattle.joins.proofs.Codes.{Sound, rows-sound}
 

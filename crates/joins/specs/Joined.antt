@@ -13,18 +13,18 @@ use Rattle.model.specs.Vector.{Shape}
 use Rattle.semantics.specs.Call.{fit}
 use Rattle.plan.specs.Conclude.{conclude}
 use Rattle.plan.specs.Joins.{joinClash, joinRowsFrom, joinSeries}
-use Rattle.naming.specs.Namings.{namingOf}
+use Rattle.set_tags.specs.naming.Namings.{namingOf}
 use Rattle.side_parts.specs.Sides.{labelsIn}
 use Rattle.answers.specs.declared.Outcome.{Outcome}
 use Rattle.answers.specs.declared.Outcome.the-variants.{Answer, LeftTwice, RightTwice}
 use Rattle.answers.specs.Outcomes.{startingWith, Ran}
 use Rattle.answers.specs.Tallies.{recordsOf, someWide}
 use Rattle.end_codes.specs.Codes.{SideEnds}
-use Rattle.lead_marks.specs.Lent.{ListedBy}
-use Rattle.join_rows.specs.declared.Work.{Work}
-use Rattle.join_rows.specs.Sides.{JoinLent, sidesOf}
-use Rattle.join_rows.specs.Codes.{sideOf, rowLabels}
-use Rattle.join_readings.specs.Readings.{RowsPut}
+use Rattle.joins.specs.lead_marks.Lent.{ListedBy}
+use Rattle.joins.specs.declared.join_rows.Work.{Work}
+use Rattle.joins.specs.join_rows.Sides.{JoinLent, sidesOf}
+use Rattle.joins.specs.join_rows.Codes.{sideOf, rowLabels}
+use Rattle.joins.specs.join_readings.Readings.{RowsPut}
 
 -- the work is the one of a query with these lists
 pub record WorkOf (q : Query) (join skip : Names) (w : Work) : Type 0 where

@@ -1,15 +1,22 @@
 // Joins run: planned, measured, then written. Only the plan and the measures can refuse, so a refusal leaves the output parts as they were.
+mod lead_marks; // the one-side series that a many-side series meets, each by its leader
+mod join_leads; // the merges behind the leaders tried; the rows that they give, listed
+mod join_rows; // the readings of one answer series
+mod join_plan; // the first pass: the first clash, or the answer rows listed and counted
+mod join_labels; // the label records of the answer series: measured, and written
+mod join_readings; // their readings, each in its own part
+
+use crate::join_plan::Plan;
 use answers::Outcome;
 use answers::Room;
-use join_plan::Plan;
-use join_rows::Work;
+pub use join_rows::Work;
 use operator::Operator;
 ghost use mathlib.Core.Path.{_≡_};
 ghost use lib.ListN.{length};
 ghost use Rattle.labels.specs.Names.{namesOf};
-ghost use Rattle.join_rows.specs.Sides.{JoinLent};
-ghost use Rattle.join_rows.specs.Codes.{rowLabels};
-ghost use Rattle.join_readings.specs.Readings.{JoinAsked};
+ghost use Rattle.joins.specs.join_rows.Sides.{JoinLent};
+ghost use Rattle.joins.specs.join_rows.Codes.{rowLabels};
+ghost use Rattle.joins.specs.join_readings.Readings.{JoinAsked};
 ghost use Rattle.joins.specs.Joined.{AnswerRoom, AnswerPut, Answered, RowsPlanned, oneTwice, Joined};
 
 // Writes the answer: the records of codes, and their readings.

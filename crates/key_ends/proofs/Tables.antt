@@ -14,7 +14,7 @@ use borrow.Author.Tests.{eqb-true, eqb-false, lt-ltb, le-ltb, ltb-true, ltb-fals
 use Rattle.model.specs.Lists.{cases}
 use Rattle.key_places.specs.Places as Places
 use Rattle.plan.specs.Keys.{firstOf, lastFrom, lastOf}
-use Rattle.tried_merges.specs.Laws.{first-places, last-places}
+use Rattle.key_places.specs.Planned.{first-places, last-places}
 use Rattle.end_codes.specs.Codes.{endsCode, pairCode, SideEnds, PairEnds, first-small, last-small}
 use Rattle.key_ends.specs.Tables.{noted, Table}
 

@@ -14,7 +14,7 @@ use Rattle.labels.specs.Matchings.{matchingOf}
 use Rattle.query.specs.declared.Query.{Query}
 use Rattle.query.specs.Queries.{matchingPart, queryOf}
 use Rattle.side_parts.specs.Sides.{Positions}
-use Rattle.key_places.specs.Dropped.{droppedMissing}
+use Rattle.keyed_sides.specs.Dropped.{droppedMissing}
 use Rattle.keyed_sides.specs.Lent.{LentSide}
 use Rattle.keyed_sides.specs.Keyed.{dropsMissing, keptKeys, Keyed, NumbersKept}
 

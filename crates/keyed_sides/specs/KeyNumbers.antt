@@ -9,7 +9,7 @@ use Rattle.model.specs.Labels.{Labels}
 use Rattle.model.specs.Query.{Query, sameKey}
 use Rattle.model.specs.Vector.{Series, seriesOf}
 use Rattle.model.specs.Laws.Vector.{series-labels, series-count}
-use Rattle.key_places.specs.Dropped.{keptNumber, droppedMissing}
+use Rattle.keyed_sides.specs.Dropped.{keptNumber, droppedMissing}
 use Rattle.key_lookup.specs.Keys.{sameKeys, numbers}
 use Rattle.key_lookup.specs.KeyLaws.{left-left, left-right, right-right, left-below, right-below}
 use Rattle.plan.specs.Laws.Common.{noSeries, getD-labels}

@@ -11,7 +11,7 @@ use Rattle.model.specs.Query.{Matching, Query}
 use Rattle.side_parts.specs.Sides.{labelsIn, sideOf}
 use Rattle.side_parts.specs.SideLaws.{labels-count}
 use Rattle.key_lookup.specs.Keys.{firstPlace, numbers}
-use Rattle.key_places.specs.Dropped.{droppedMissing, dropped-count}
+use Rattle.keyed_sides.specs.Dropped.{droppedMissing, dropped-count}
 use Rattle.plan.specs.Laws.Keyed.{Numbers}
 use Rattle.plan.specs.Laws.Numbers.{KeysTold, numbers-all, numbers-kept}
 use Rattle.keyed_sides.specs.Lent.{LentSide}

@@ -1,3 +1,4 @@
+pub mod Dropped
 pub mod Lent
 pub mod KeyNumbers
 pub mod Keyed

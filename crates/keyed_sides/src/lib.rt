@@ -1,4 +1,6 @@
 // Both sides of a call with their key numbers.
+mod dropped; // series with only missing readings taken out
+
 use labels::Matching;
 use operator::Operator;
 ghost use mathlib.Core.Path.{_≡_};
@@ -110,8 +112,8 @@ fn drop_for(
     if op.is_comparison() {
         return;
     }
-    key_places::drop_missing(left, p, left_keys);
-    key_places::drop_missing(right, p, right_keys);
+    dropped::drop_missing(left, p, left_keys);
+    dropped::drop_missing(right, p, right_keys);
 }
 
 // Numbers the keys of both sides' series that take part.

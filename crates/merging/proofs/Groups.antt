@@ -24,7 +24,8 @@ use Rattle.merging.specs.declared.Merges.{Merges}
 use Rattle.merging.specs.declared.Merges.the-variants.{Done, FailedAt}
 use Rattle.merging.specs.Groups.{absorbedOne, thereIf, AbsorbedAs, MergedGroup}
 use Rattle.key_places.specs.Places as Places
-use Rattle.tried_merges.specs.Laws.{last-places, several-merged}
+use Rattle.key_places.specs.Planned.{last-places}
+use Rattle.merging.specs.Several.{several-merged}
 
 -- `absorb`
 

@@ -15,7 +15,7 @@ use Rattle.answers.specs.declared.Room.the-variants as Room
 use Rattle.answers.specs.Outcomes.{Ran}
 use Rattle.answers.specs.Tallies.{TallyOf, roomOf}
 use Rattle.answers.proofs.Concluding.{ran-too-large, ran-too-long, ran-answer}
-use Rattle.adjusted_labels.specs.Edits.{pairLabels}
+use Rattle.one_to_one.specs.adjusted_labels.Edits.{pairLabels}
 use Rattle.one_to_one.specs.Answers.{answerOf, PairsPut}
 
 module _ (q : Model.Query) (s : Sides) (labels : List Labels) (list labels₀ out₀ : List ℕ) (few : length list ≤ maxSeries) (t : Tally) (tally : TallyOf (pairLabels q labels) list t) (room : Room) (asked : room ≡ roomOf (length list) (s .points) t (length labels₀) (length out₀)) where

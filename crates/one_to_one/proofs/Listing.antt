@@ -20,11 +20,12 @@ use Rattle.plan.specs.Keys.{lastOf}
 use Rattle.plan.specs.Merging.{RowMerge, row, failedAt, mergeLast, clash}
 use Rattle.plan.specs.Conclude.{orElse}
 use Rattle.plan.specs.Pairs.{isPair, pairClash, pairsClash, pairsFrom}
-use Rattle.tried_merges.specs.Laws.{last-within, last-is}
-use Rattle.pairs.specs.Pairing.{sidesOf, PairSides, failureOf}
-use Rattle.pairs.proofs.Pairing.{pair-left, pair-right}
-use Rattle.pairs.proofs.Lists.{pairs-at-most}
-use Rattle.pair_rows.specs.Rows.{Paired}
+use Rattle.plan.specs.Laws.Ends.{last-within}
+use Rattle.key_places.specs.Planned.{last-is}
+use Rattle.one_to_one.specs.pairs.Pairing.{sidesOf, PairSides, failureOf}
+use Rattle.one_to_one.proofs.pairs.Pairing.{pair-left, pair-right}
+use Rattle.one_to_one.proofs.pairs.Lists.{pairs-at-most}
+use Rattle.one_to_one.specs.pair_rows.Rows.{Paired}
 use Rattle.answers.specs.declared.Outcome.{Outcome}
 use Rattle.answers.specs.Outcomes.{Ran}
 use Rattle.one_to_one.specs.Answers.{answerOf, Listed, Clear}

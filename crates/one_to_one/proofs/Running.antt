@@ -13,11 +13,11 @@ use Rattle.answers.specs.declared.Outcome.the-variants as Out
 use Rattle.answers.specs.Outcomes.{Ran}
 use Rattle.answers.proofs.Concluding.{ran-left-twice, ran-right-twice, ran-without-clash}
 use Rattle.end_codes.specs.Codes.{PairEnds}
-use Rattle.pair_checks.specs.declared.Checked.{Checked}
-use Rattle.pair_checks.specs.declared.Checked.the-variants as C
-use Rattle.pair_checks.specs.Checks.{clashIn}
-use Rattle.pairs.specs.Pairing.{sidesOf, PairSides}
-use Rattle.pair_labels.specs.Records.{LeftLabels}
+use Rattle.one_to_one.specs.declared.pair_checks.Checked.{Checked}
+use Rattle.one_to_one.specs.declared.pair_checks.Checked.the-variants as C
+use Rattle.one_to_one.specs.pair_checks.Checks.{clashIn}
+use Rattle.one_to_one.specs.pairs.Pairing.{sidesOf, PairSides}
+use Rattle.one_to_one.specs.pair_labels.Records.{LeftLabels}
 use Rattle.one_to_one.specs.Answers.{answerOf, oneToOne, Clear}
 
 module _ (s : Sides) (x : Checked) (found : clashIn x ≡ pairsClash twoOverlaps s 0 (s .leftKeys)) where

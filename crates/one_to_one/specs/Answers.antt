@@ -14,10 +14,10 @@ use Rattle.plan.specs.Pairs.{Sides, pairsClash, pairsFrom, pairSeries}
 use Rattle.answers.specs.Outcomes.{startingWith}
 use Rattle.answers.specs.Tallies.{RecordsPut}
 use Rattle.end_codes.specs.Codes.{PairEnds}
-use Rattle.adjusted_labels.specs.Edits.{pairLabels}
-use Rattle.pair_labels.specs.Records.{LeftLabels, PlacesIn}
-use Rattle.pairs.specs.Pairing.{PairSides, sidesOf}
-use Rattle.pair_rows.specs.Rows.{pairedRow, PairedRows}
+use Rattle.one_to_one.specs.adjusted_labels.Edits.{pairLabels}
+use Rattle.one_to_one.specs.pair_labels.Records.{LeftLabels, PlacesIn}
+use Rattle.one_to_one.specs.pairs.Pairing.{PairSides, sidesOf}
+use Rattle.one_to_one.specs.pair_rows.Rows.{pairedRow, PairedRows}
 
 -- what the answer series of left places come to, by the lengths of the lent parts
 abbrev pub answerOf : Model.Query → ℕ → ℕ → Sides → List Labels → List ℕ → Outcome

@@ -1,7 +1,14 @@
 // One-to-one run: every merge tried, then the answer written where it fits.
+mod tried_merges; // what is asked before rows are merged
+mod adjusted_labels; // a left record edited, `adjust_binary_op_tags`
+mod pair_labels; // the label records of the answer series: measured, and written
+mod pairs; // which left series begin a pair, and whose labels it has
+mod pair_checks; // the merges tried, key by key
+mod pair_rows; // the rows of the answer series
+
+use crate::pair_checks::Checked;
 use answers::Outcome;
 use answers::Room;
-use pair_checks::Checked;
 use query::Query;
 ghost use mathlib.Core.Path.{_≡_};
 ghost use Prim.Native.Nat.{_+_, _*_, _≤_};
@@ -11,9 +18,9 @@ ghost use Rattle.side_parts.specs.Sides.{labelsIn};
 ghost use Rattle.answers.specs.Outcomes.{Ran};
 ghost use Rattle.answers.specs.Tallies.{recordsOf};
 ghost use Rattle.end_codes.specs.Codes.{PairEnds};
-ghost use Rattle.adjusted_labels.specs.Edits.{queryBy, pairLabels};
-ghost use Rattle.pair_labels.specs.Records.{LeftLabels};
-ghost use Rattle.pairs.specs.Pairing.{sidesOf, PairSides};
+ghost use Rattle.one_to_one.specs.adjusted_labels.Edits.{queryBy, pairLabels};
+ghost use Rattle.one_to_one.specs.pair_labels.Records.{LeftLabels};
+ghost use Rattle.one_to_one.specs.pairs.Pairing.{sidesOf, PairSides};
 ghost use Rattle.one_to_one.specs.Answers.{answerOf, oneToOne, Listed, Clear, PairsPut};
 
 // Writes the records and the rows of left places, and gives the bytes of the records.

@@ -9,7 +9,6 @@ ghost use Prim.Native.Nat.{_≤_, _<_};
 ghost use lib.Dec.{eqb};
 ghost use lib.ListN.{length, drop};
 ghost use Rattle.model.specs.Query as Model;
-ghost use Rattle.model.specs.Query.{resets};
 ghost use Rattle.operator_table.specs.Table.{rowOf};
 ghost use Rattle.labels.specs.Matchings.{matchingOf};
 ghost use Rattle.query.specs.Queries.{joinOf, InRange, ListsAt, TakenAs};
@@ -178,23 +177,5 @@ pub fn take_query(s: &[u8]) -> Request
             }
         }
         Coded::Unknown => Request::BadOperator,
-    }
-}
-
-// Whether the names of an answer's series are cleared.
-pub fn should_reset_metric_group(q: Query) -> bool
-    ensures { λ r. ⌜ r ≡ resets (q .operator) (q .«keep_names») (q .bool) ⌝ }
-{
-    let operator = q.operator;
-    if q.keep_names {
-        return false;
-    }
-    if operator.is_logical_op() {
-        return false;
-    }
-    if operator.is_comparison() {
-        q.bool
-    } else {
-        true
     }
 }

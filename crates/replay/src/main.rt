@@ -2,6 +2,7 @@
 // format), then examples, each a name and a case. The output parts are filled first, and every element of theirs is compared.
 use case_parts::number_at;
 use case_parts::part_at;
+use case_parts::reading_at;
 use case_text::print;
 use case_text::print_number;
 use libc::STDIN_FILENO;
@@ -9,16 +10,6 @@ use libc::STDOUT_FILENO;
 ghost use Prim.Native.Nat.{_+_, _≤_};
 ghost use lib.ListN.{length};
 ghost use Rattle.io.specs.Counts.{Counts};
-
-// The bits of the reading at a place.
-fn reading_at(s: &[u8], at: usize) -> u64
-    requires { ⌜ at + 8 ≤ length (now s) ⌝ }
-{
-    let low = number_at(s, at) + 65536 * number_at(s, at + 2);
-    let high = number_at(s, at + 4) + 65536 * number_at(s, at + 6);
-    let bits = low + 4294967296 * high;
-    bits as u64
-}
 
 // Puts the readings of a part, as many as there is room for, at the start of an array, and answers how many.
 fn take_readings(bytes: &[u8], rows: &mut [u64]) -> usize

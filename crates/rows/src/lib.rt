@@ -1,9 +1,15 @@
-// An operator over two rows into a third, and rows with only missing readings.
+// An operator over two rows into a third.
+mod arithmetic; // the five arithmetic operators on two readings
+mod comparisons; // the six comparisons of two readings, plain and bool
+mod arithmetic_rows; // the arithmetic operators over two rows, one loop each
+mod equality_rows; // equality and its opposite over two rows
+mod comparison_rows; // the comparisons by order over two rows
+
 ghost use mathlib.Core.Path.{_≡_};
 ghost use lib.ListN.{length};
 ghost use Rattle.model.specs.Reading.{scalarOp};
-ghost use Rattle.model.specs.Row.{zipWith, onlyMissing};
-ghost use Rattle.binaryop.specs.Leaves.{nothing};
+ghost use Rattle.model.specs.Row.{zipWith};
+ghost use Rattle.rows.specs.Nothing.{nothing};
 use operator::Operator;
 
 // No reading at any point.
@@ -39,19 +45,4 @@ pub fn apply_rows(op: Operator, bool: bool, left: &[u64], right: &[u64], out: &m
         Operator::NotEq => equality_rows::neq_rows(left, right, bool, out),
         _ => no_rows(left, right, out),
     }
-}
-
-// Whether a row has no reading.
-pub fn only_missing(row: &[u64]) -> bool
-    ensures { λ r. ⌜ r ≡ onlyMissing (now (row .entry)) ⌝ }
-{
-    let mut i: usize = 0;
-    while i < row.len() {
-        if reading::is_missing(row[i]) {
-            i += 1;
-        } else {
-            return false;
-        }
-    }
-    true
 }

@@ -15,11 +15,11 @@ use Rattle.record_tags.specs.Cursors.{encodeTag, encode-tag}
 use Rattle.kept_labels.specs.Edited.{TagsSized}
 use Rattle.writing.specs.Written.{Put}
 use Rattle.writing.proofs.Written.{Rest, rest-start, rest-room, rest-put, rest-done}
-use Rattle.edited_tags.specs.Streams.{editedTags, tagsLeft, WalkOf, EditedAt}
-use Rattle.edited_tags.specs.declared.Walk.{Walk}
-use Rattle.edited_tags.specs.declared.Edited.{Edited}
-use Rattle.edited_tags.specs.declared.Edited.the-variants as E
-use Rattle.edited_tags.proofs.Found.{edit-ended, edit-first, edit-fewer}
+use Rattle.set_tags.specs.edited_tags.Streams.{editedTags, tagsLeft, WalkOf, EditedAt}
+use Rattle.set_tags.specs.declared.edited_tags.Walk.{Walk}
+use Rattle.set_tags.specs.declared.edited_tags.Edited.{Edited}
+use Rattle.set_tags.specs.declared.edited_tags.Edited.the-variants as E
+use Rattle.set_tags.proofs.edited_tags.Found.{edit-ended, edit-first, edit-fewer}
 use Rattle.set_tags.specs.Records.{ShortRecords}
 use Rattle.set_tags.proofs.Sizes.{edited-short}
 

@@ -15,12 +15,12 @@ use Rattle.model.specs.Laws.SetTags.{isSet, stays, stayingTags, setFrom, mergeT
 use Rattle.record_tags.specs.Lenient.{labelsOf}
 use Rattle.kept_labels.specs.Edited.{Sized}
 use Rattle.kept_labels.proofs.Sizes.{no-bytes, length-tags, length-labels, chosen-short, labels-short}
-use Rattle.tag_streams.specs.Sieves.{set-sieve, staying-sieve}
-use Rattle.edited_tags.specs.Streams.{editedTags}
-use Rattle.naming.specs.Namings.{nameOf}
+use Rattle.set_tags.specs.tag_streams.Sieves.{set-sieve, staying-sieve}
+use Rattle.set_tags.specs.edited_tags.Streams.{editedTags}
+use Rattle.set_tags.specs.naming.Namings.{nameOf}
 use Rattle.set_tags.specs.Records.{ShortRecords, edited}
-use Rattle.naming.specs.declared.Naming.{Naming}
-use Rattle.naming.specs.declared.Naming.the-variants.{Nobody, Many, Source}
+use Rattle.set_tags.specs.declared.naming.Naming.{Naming}
+use Rattle.set_tags.specs.declared.naming.Naming.the-variants.{Nobody, Many, Source}
 
 -- merging loses no byte
 merge-bytes : (xs ys : List Tag) → length (encodeTags (mergeTags xs ys)) ≡ length (encodeTags xs) + length (encodeTags ys)

@@ -10,10 +10,10 @@ use Rattle.model.specs.Edits.{Names, isListed, clearNameIf, setTags}
 use Rattle.model.specs.Laws.Edits.{clear-well}
 use Rattle.model.specs.Laws.SetTags.{stayingTags, setFrom, mergeTags, set-tags-merge, set-tags-name}
 use Rattle.record_tags.specs.Lenient.{labelsOf}
-use Rattle.naming.specs.declared.Naming.{Naming}
-use Rattle.naming.specs.declared.Naming.the-variants.{Nobody, Many, Source}
-use Rattle.naming.specs.Namings.{namingOf, nameOf}
-use Rattle.edited_tags.specs.Streams.{editedTags}
+use Rattle.set_tags.specs.declared.naming.Naming.{Naming}
+use Rattle.set_tags.specs.declared.naming.Naming.the-variants.{Nobody, Many, Source}
+use Rattle.set_tags.specs.naming.Namings.{namingOf, nameOf}
+use Rattle.set_tags.specs.edited_tags.Streams.{editedTags}
 
 -- records of a label array
 pub record ShortRecords (many source : List ℕ) : Type 0 where

@@ -1,7 +1,15 @@
 // A join's edited record: the many side's labels, with the join labels set from a one-side series, the source; measured, and written at its place.
-use edited_tags::Edited;
+mod tag_streams; // the many side's tags that stay, the source's tags that are set
+mod edited_tags; // a walk over both: the edited record's next tag, with no work array
+mod naming; // the edited record's name: chosen, measured, and written
+mod edited_alike; // the edited tags of two sources compared in full, and hashed
+
+use crate::edited_tags::Edited;
+pub use edited_alike::hash_edited;
+pub use edited_alike::same_edited;
 use kept_labels::Size;
-use naming::Naming;
+pub use naming::Naming;
+pub use naming::naming_of;
 ghost use mathlib.Core.Path.{_≡_};
 ghost use Prim.Native.Nat.{_+_, _≤_};
 ghost use lib.ListN.{length};
@@ -10,7 +18,7 @@ ghost use Rattle.model.specs.Record.{encodeTags, encode};
 ghost use Rattle.labels.specs.Names.{namesOf};
 ghost use Rattle.writing.specs.Written.{Put};
 ghost use Rattle.kept_labels.specs.Edited.{TagsSized, Sized};
-ghost use Rattle.edited_tags.specs.Streams.{editedTags};
+ghost use Rattle.set_tags.specs.edited_tags.Streams.{editedTags};
 ghost use Rattle.set_tags.specs.Records.{ShortRecords, edited};
 
 // How many tags the edited record has, and their bytes.

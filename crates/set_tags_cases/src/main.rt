@@ -10,8 +10,8 @@ use case_text::print_size;
 use label_records::Record;
 use libc::STDIN_FILENO;
 use libc::STDOUT_FILENO;
-use naming::Naming;
 use operator::Operator;
+use set_tags::Naming;
 ghost use Prim.Native.Nat.{_≤_};
 ghost use lib.ListN.{length};
 ghost use Rattle.model.specs.Limits.{maxLabelBytes};
@@ -34,10 +34,10 @@ fn edit<'a>(many: &'a [u8], source: &'a [u8], join: &[u8], skip: &[u8], naming: 
 
 // The edited tags of two sources, compared and hashed.
 fn compare<'a>(many: &'a [u8], source: &'a [u8], other: &'a [u8], join: &[u8], skip: &[u8]) {
-    print_bool(edited_alike::same_edited(many, source, other, join, skip));
+    print_bool(set_tags::same_edited(many, source, other, join, skip));
     io::print_hex(
         STDOUT_FILENO,
-        edited_alike::hash_edited(many, source, join, skip),
+        set_tags::hash_edited(many, source, join, skip),
         16,
     );
     print(b" ");
@@ -69,7 +69,7 @@ fn answer(case: &[u8])
     if other.len() == 0 {
         return print(b"refused\n");
     }
-    let naming = naming::naming_of(join, skip, case[0] == 1);
+    let naming = set_tags::naming_of(join, skip, case[0] == 1);
     compare(many, source, other, join, skip);
     edit(many, source, join, skip, naming);
     print(b"\n");

@@ -12,6 +12,7 @@ use Rattle.model.specs.Reading.{noReading, scalarOp}
 use Rattle.model.specs.Row.{zipWith}
 use Rattle.model.specs.Query.{Query, Side, left, right, group}
 use Rattle.model.specs.Vector.{Series, Shape}
+use Rattle.model.specs.Laws.Booleans.{never-so}
 use Rattle.model.specs.Laws.Lists.{keep-swap}
 use Rattle.semantics.specs.Places.{Place, Placed, placed, Rank}
 use Rattle.semantics.specs.Events.{Event, good, bad, Ranked, Rule, Verdict, answer, duplicate, ofKey, producedBy, emission, events, settle}
@@ -190,18 +191,15 @@ many-side-apart q many j ls rs ls′ rs′ o l l′ e e′ s side h h′ =
 
 -- calls and verdicts
 
-true-false : {X : Type 0} → true ≡ false → X
-true-false e = absurd (false≢true (sym e))
-
 module _ (a b : ℕ) (q : Query) (ls rs : List Series) (shape : Shape) where
   fitted : (l : List (Ranked Rank Series)) → verdict q ls rs ≡ answer l → Way a b shape (seriesIn l) (fit a b shape (seriesIn l)) → isRefused (fit a b shape (seriesIn l)) ≡ false → Answers q ls rs shape (fit a b shape (seriesIn l))
   fitted l v (fine h) e = record { l = l; verdict-is = v; is = fits-fit a b shape (seriesIn l) h }
-  fitted l v (too-big w) e = true-false (rw w at e)
-  fitted l v (no-room w) e = true-false (rw w at e)
+  fitted l v (too-big w) e = never-so (rw w at e)
+  fitted l v (no-room w) e = never-so (rw w at e)
 
   concluded-answers : (v : Verdict) → verdict q ls rs ≡ v → isRefused (concluded a b shape v) ≡ false → Answers q ls rs shape (concluded a b shape v)
   concluded-answers (answer l) h e = fitted l h (fit-way a b shape (seriesIn l)) e
-  concluded-answers (duplicate x) h e = true-false e
+  concluded-answers (duplicate x) h e = never-so e
 
 pub answers-verdict : AnswersVerdict
 answers-verdict s ll lr rl rr q shape ls rs t a b e =

@@ -12,6 +12,7 @@ use Rattle.model.specs.Labels.{Bytes}
 use Rattle.model.specs.Record.{encode}
 use Rattle.model.specs.Query.{Query, left, right}
 use Rattle.model.specs.Vector.{Series, Shape, labelPart, labelBytes, readingsOf, Readings, GoodSeries, Valid}
+use Rattle.model.specs.Laws.Booleans.{never-so}
 use Rattle.model.specs.Laws.Lists.{map-map}
 use Rattle.model.specs.Laws.Vector.{take-valid, taken-is}
 use Rattle.semantics.specs.Places.{Rank, rankBefore}
@@ -26,9 +27,6 @@ use Rattle.theorems.specs.Dealing.Fitting.{Fits, fits-fit, Way, fine, to
 
 series-same : (ρ : Renumber) (l : List (Ranked Rank Series)) → seriesIn (map (movedRanked (movedRank ρ) (λ s. s)) l) ≡ seriesIn l
 series-same ρ l = map-map _ _ l
-
-not-false : {X : Type 0} → true ≡ false → X
-not-false e = absurd (false≢true (sym e))
 
 module _ (a b : ℕ) (shape : Shape) (ρ₁ ρ₂ : Renumber) where
   abbrev Claim : Verdict → Verdict → Outcome → Type 0
@@ -73,8 +71,8 @@ module _ (a b : ℕ) (shape : Shape) (ρ₁ ρ₂ : Renumber) where
     fitted : Rising rankBefore merged → Way a b shape (seriesIn merged) (fit a b shape (seriesIn merged)) → refusedOtherwise (fit a b shape (seriesIn merged)) ≡ false
         → Claim (answer l) (answer m) (fit a b shape (seriesIn merged))
     fitted order (fine h) r = all-answer order h
-    fitted order (too-big e) r = not-false (rw e at r)
-    fitted order (no-room e) r = not-false (rw e at r)
+    fitted order (too-big e) r = never-so (rw e at r)
+    fitted order (no-room e) r = never-so (rw e at r)
 
   one-refused : (o : Bool) → true ≡ (o || true)
   one-refused true = refl
@@ -90,7 +88,7 @@ module _ (a b : ℕ) (shape : Shape) (ρ₁ ρ₂ : Renumber) where
         second-call = refl;
         together = one-refused (isRefused (fit a b shape (seriesIn l)));
         duplicates = λ e. record { which = _; first = refl; is = refl };
-        answers = λ e. not-false e;
+        answers = λ e. never-so e;
       }
   splits (duplicate x) (answer m) up r =
       record {
@@ -98,7 +96,7 @@ module _ (a b : ℕ) (shape : Shape) (ρ₁ ρ₂ : Renumber) where
         second-call = refl;
         together = refl;
         duplicates = λ e. record { which = _; first = refl; is = refl };
-        answers = λ e. not-false e;
+        answers = λ e. never-so e;
       }
   splits (duplicate x) (duplicate y) up r =
       record {
@@ -106,7 +104,7 @@ module _ (a b : ℕ) (shape : Shape) (ρ₁ ρ₂ : Renumber) where
         second-call = refl;
         together = refl;
         duplicates = λ e. record { which = _; first = refl; is = refl };
-        answers = λ e. not-false e;
+        answers = λ e. never-so e;
       }
 
 -- the piles' sides are valid, so their encodings are taken
@@ -172,17 +170,17 @@ partition s ll lr rl rr bl wl br wr q shape ls rs t deal d a b r =
 -- a call that is not refused by a number from 1 to 6 has sides
 
 otherwise : {X : Type 0} (n i j : ℕ) → n ≤ 6 → refusedOtherwise (refused n i j) ≡ false → X
-otherwise n i j h e = not-false (sym (rw (unequal n 7 (omega (arith, h)), unequal n 8 (omega (arith, h)))) ∙ e)
+otherwise n i j h e = never-so (sym (rw (unequal n 7 (omega (arith, h)), unequal n 8 (omega (arith, h)))) ∙ e)
   where
     unequal : (m n : ℕ) → m < n → eqb m n ≡ false
     unequal m n h = cases (eqb m n) (λ e. absurd (let z = eqb-true m n e in omega (arith, z))) (λ e. e)
 
 sides : (s ll lr rl rr : List ℕ) (a b : ℕ) (o : Outcome) → OutcomeOf s ll lr rl rr a b o → refusedOtherwise o ≡ false → Sides s ll lr rl rr
-sides s ll lr rl rr a b o (number-1 e) r = not-false r
-sides s ll lr rl rr a b o (number-2 e) r = not-false r
+sides s ll lr rl rr a b o (number-1 e) r = never-so r
+sides s ll lr rl rr a b o (number-2 e) r = never-so r
 sides s ll lr rl rr a b o (left-3-to-5 q e n i h k f) r = otherwise n 0 i (omega (arith, k)) r
 sides s ll lr rl rr a b o (right-3-to-5 q e l g n i h k f) r = otherwise n 1 i (omega (arith, k)) r
-sides s ll lr rl rr a b o (number-6 q e l g x h f) r = not-false r
+sides s ll lr rl rr a b o (number-6 q e l g x h f) r = never-so r
 sides s ll lr rl rr a b o (number-7-or-8 q shape ls rs t x e) r = record { q = q; shape = shape; ls = ls; rs = rs; taken = t }
 sides s ll lr rl rr a b o (number-9 q shape ls rs t l e f) r = record { q = q; shape = shape; ls = ls; rs = rs; taken = t }
 sides s ll lr rl rr a b o (number-10 q shape ls rs t l e f g) r = record { q = q; shape = shape; ls = ls; rs = rs; taken = t }

@@ -15,10 +15,10 @@ use borrow.Author.Tests.{le-leb, lt-leb, eq-eqb, ne-eqb}
 use Rattle.model.specs.Vector.{Shape, Records, records, badRecord, recordsIn, seriesOf, withReadings, twoBytesAt, takeVector}
 use Rattle.model.specs.Laws.Vector.{records-read, series-count}
 use Rattle.model.specs.Laws.Faults.{RecordFault, three, four, bad-number}
-use Rattle.record_walk.specs.Walks.{walkedOf, WalkedInto}
+use Rattle.timeseries.specs.record_walk.Walks.{walkedOf, WalkedInto}
 use Rattle.timeseries.specs.Takes.{takenOf, notedIn, TakenInto}
-use Rattle.record_walk.specs.declared.Walked.{Walked}
-use Rattle.record_walk.specs.declared.Walked.the-variants as W
+use Rattle.timeseries.specs.declared.record_walk.Walked.{Walked}
+use Rattle.timeseries.specs.declared.record_walk.Walked.the-variants as W
 use Rattle.timeseries.specs.declared.Taken.{Taken}
 use Rattle.timeseries.specs.declared.Taken.the-variants as T
 

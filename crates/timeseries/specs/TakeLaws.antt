@@ -18,7 +18,7 @@ use Rattle.model.specs.Laws.Vector.{ReadAs, records-read, read-bytes, series-co
 use Rattle.model.specs.Laws.Faults.{onSide, take-side, Fault, cutFault, keyFault, readingsFault, take-fault}
 use Rattle.side_parts.specs.Sides.{labelsIn, sideOf, ends, starts, Positions}
 use Rattle.side_parts.specs.SideLaws.{starts-count, labels-starts, positions-starts}
-use Rattle.record_walk.specs.Walks.{noted}
+use Rattle.timeseries.specs.record_walk.Walks.{noted}
 use Rattle.timeseries.specs.Takes.{takenOf, takenNumber, takenPlace, notedIn, TakenInto}
 use Rattle.timeseries.specs.declared.Taken.{Taken}
 use Rattle.timeseries.specs.declared.Taken.the-variants as T

@@ -8,7 +8,7 @@ use lib.ListN.{length, drop}
 use lib.Seq.{sets}
 use Rattle.model.specs.Limits.{maxSeries, maxPoints}
 use Rattle.model.specs.Vector.{TakenVector, vector, faulty, twoBytesAt, takeVector}
-use Rattle.record_walk.specs.Walks.{noted}
+use Rattle.timeseries.specs.record_walk.Walks.{noted}
 use Rattle.timeseries.specs.declared.Taken.{Taken}
 use Rattle.timeseries.specs.declared.Taken.the-variants as T
 

@@ -1,6 +1,9 @@
 // Vectors: taken from bytes and readings.
+mod label_reader; // a reader that borrows the label array
+mod record_walk; // the records of a label array, walked by it
+
+use crate::record_walk::Walked;
 use operator::Operator;
-use record_walk::Walked;
 ghost use mathlib.Core.Path.{_≡_};
 ghost use Prim.Native.Nat.{_+_, _-_, _*_, _<_};
 ghost use Rattle.model.specs.Vector.{twoBytesAt};

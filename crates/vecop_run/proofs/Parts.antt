@@ -9,12 +9,12 @@ use mir.Val.{Fits}
 use lib.ListN.{length, take, drop, length-drop, length-append}
 use lib.Seq.{take-all, take-at, length-take-le}
 use Rattle.writing.specs.Written.{written, Put}
-use Rattle.vecop_frame.specs.Frames.{maxInput}
-use Rattle.vecop_frame.specs.Sides.{readingsIn}
-use Rattle.vecop_frame.specs.Found.{PartsFound, Split}
-use Rattle.vecop_frame.specs.declared.Parts.{Parts}
-use Rattle.vecop_frame.specs.declared.Parts.the-variants.{Three, Unreadable}
-use Rattle.vecop_text.specs.Text.{unreadableText, printed}
+use Rattle.vecop_run.specs.frame.Frames.{maxInput}
+use Rattle.vecop_run.specs.frame.Sides.{readingsIn}
+use Rattle.vecop_run.specs.frame.Found.{PartsFound, Split}
+use Rattle.vecop_run.specs.declared.frame.Parts.{Parts}
+use Rattle.vecop_run.specs.declared.frame.Parts.the-variants.{Three, Unreadable}
+use Rattle.vecop_run.specs.outcome_text.Text.{unreadableText, printed}
 use Rattle.vecop_run.specs.Vecop.{ran, called, vecopText}
 
 -- readings at the start of the words

@@ -15,8 +15,8 @@ use Rattle.answers.specs.Outcomes as O
 use Rattle.answers.specs.declared.Outcome.{Outcome}
 use Rattle.keyed_sides.specs.Lent.{bytes-of, readings-of}
 use Rattle.writing.specs.Written.{Put}
-use Rattle.vecop_text.specs.Text.{printed}
-use Rattle.vecop_text.specs.Told.{toldText, Within}
+use Rattle.vecop_run.specs.outcome_text.Text.{printed}
+use Rattle.vecop_run.specs.outcome_text.Told.{toldText, Within}
 use Rattle.vecop_run.specs.Vecop.{ran, maxText}
 use Rattle.vecop_run.proofs.Sizes.{answer-size, refusal-size}
 

@@ -9,10 +9,10 @@ use Rattle.model.specs.Lists.{cases}
 use Rattle.model.specs.Labels.{Tag, Labels}
 use Rattle.model.specs.Record.{Decoded, decoded, cut, badKey, decode, encodeField, encodeTags, encode}
 use Rattle.model.specs.Laws.Record.{decode-is}
-use Rattle.vecop_labels.specs.Numerals.{digitCount, decimal}
-use Rattle.vecop_labels.specs.LabelText.{isPlain, escaped, escapedAll, tagText, moreTags, tagsText, bracedTags, labelsText}
-use Rattle.vecop_text.specs.Text.{readingText, rowText, lineText, onRecord, linesText, twoNumbers, answerText, refusalText}
-use Rattle.vecop_labels.proofs.Numerals.{digits-length}
+use Rattle.vecop_run.specs.label_text.Numerals.{digitCount, decimal}
+use Rattle.vecop_run.specs.label_text.LabelText.{isPlain, escaped, escapedAll, tagText, moreTags, tagsText, bracedTags, labelsText}
+use Rattle.vecop_run.specs.outcome_text.Text.{readingText, rowText, lineText, onRecord, linesText, twoNumbers, answerText, refusalText}
+use Rattle.vecop_run.proofs.label_text.Numerals.{digits-length}
 
 escaped-size : (b : ℕ) → length (escaped b) ≤ 3
 unfolding escaped

@@ -5,11 +5,11 @@ use mathlib.Core.List.{List, [], _∷_, _++_, map}
 use lib.ListN.{length, take}
 use Rattle.semantics.specs.Call.{refused}
 use Rattle.semantics.specs.Computing.{computing}
-use Rattle.vecop_frame.specs.Frames.{readPart, framed}
-use Rattle.vecop_frame.specs.Sides.{wordsIn, readingsIn}
-use Rattle.vecop_labels.specs.Numerals.{digits, digitCount, decimal}
-use Rattle.vecop_labels.specs.LabelText.{among, escaped, tagText, moreTags, bracedTags, labelsText}
-use Rattle.vecop_text.specs.Text.{readingText, lineText, linesText, twoNumbers, answerText, refusalText, unreadableText, printed}
+use Rattle.vecop_run.specs.frame.Frames.{readPart, framed}
+use Rattle.vecop_run.specs.frame.Sides.{wordsIn, readingsIn}
+use Rattle.vecop_run.specs.label_text.Numerals.{digits, digitCount, decimal}
+use Rattle.vecop_run.specs.label_text.LabelText.{among, escaped, tagText, moreTags, bracedTags, labelsText}
+use Rattle.vecop_run.specs.outcome_text.Text.{readingText, lineText, linesText, twoNumbers, answerText, refusalText, unreadableText, printed}
 use Rattle.vecop_run.specs.Vecop.{vecopText}
 
 -- a theorem that computes a text has `texts` on its `unfolding` line

@@ -1,2 +1,5 @@
 pub mod Vecop
 pub mod Examples
+pub mod frame
+pub mod label_text
+pub mod outcome_text

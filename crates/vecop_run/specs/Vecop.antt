@@ -2,9 +2,9 @@
 use Prim.Native.Nat.{ℕ}
 use mathlib.Core.List.{List}
 use Rattle.semantics.specs.Call.{Outcome, call}
-use Rattle.vecop_frame.specs.Frames.{Framed, unreadable, three, framed}
-use Rattle.vecop_frame.specs.Sides.{labelsIn, readingsIn}
-use Rattle.vecop_text.specs.Text.{unreadableText, printed}
+use Rattle.vecop_run.specs.frame.Frames.{Framed, unreadable, three, framed}
+use Rattle.vecop_run.specs.frame.Sides.{labelsIn, readingsIn}
+use Rattle.vecop_run.specs.outcome_text.Text.{unreadableText, printed}
 
 -- 01: Its output parts hold 65,535 label bytes and 8,192 readings.
 abbrev pub ran : List ℕ → List ℕ → List ℕ → List ℕ → List ℕ → Outcome

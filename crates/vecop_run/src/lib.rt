@@ -1,13 +1,17 @@
 // What the program prints for an input.
+mod frame; // the input's three parts, and the parts of a vector
+mod label_text; // a number's digits, and a record's labels
+mod outcome_text; // an outcome, and `unreadable`
+
 ghost use mathlib.Core.Path.{_≡_};
 ghost use Prim.Native.Nat.{_≤_};
 ghost use lib.ListN.{length};
 ghost use Rattle.writing.specs.Written.{Put};
-ghost use Rattle.vecop_frame.specs.Frames.{maxInput};
-ghost use Rattle.vecop_frame.specs.Sides.{readingsIn};
-ghost use Rattle.vecop_text.specs.Text.{printed};
+ghost use Rattle.vecop_run.specs.frame.Frames.{maxInput};
+ghost use Rattle.vecop_run.specs.frame.Sides.{readingsIn};
+ghost use Rattle.vecop_run.specs.outcome_text.Text.{printed};
 ghost use Rattle.vecop_run.specs.Vecop.{ran, called, vecopText, maxText};
-use vecop_frame::Parts;
+use crate::frame::Parts;
 
 // Room for every text.
 pub const MAX_TEXT: usize = 335918;
@@ -37,7 +41,7 @@ fn put_run<'a>(
         labels,
         readings,
     );
-    vecop_text::put_outcome(text, x, labels, readings)
+    outcome_text::put_outcome(text, x, labels, readings)
 }
 
 // A query over vectors' parts whose readings are read.
@@ -58,8 +62,8 @@ fn put_split<'a>(
     requires { ⌜ maxText ≤ length (now text) ⌝ }
     ensures { λ r. ⌜ Put (now (text .entry)) 0 (printed (called (now (query .entry)) (now (left .entry)) (now (right .entry)))) (now (text .exit)) r ⌝ }
 {
-    let a = vecop_frame::labels_end(left);
-    let b = vecop_frame::labels_end(right);
+    let a = frame::labels_end(left);
+    let b = frame::labels_end(right);
     put_run(
         query,
         &left[..a],
@@ -91,7 +95,7 @@ fn put_right<'a>(
     requires { ⌜ maxText ≤ length (now text) ⌝ }
     ensures { λ r. ⌜ Put (now (text .entry)) 0 (printed (called (now (query .entry)) (now (left .entry)) (now (right .entry)))) (now (text .exit)) r ⌝ }
 {
-    let n = vecop_frame::read_readings(right, words);
+    let n = frame::read_readings(right, words);
     put_split(
         query,
         left,
@@ -124,7 +128,7 @@ fn put_sides<'a>(
     requires { ⌜ maxText ≤ length (now text) ⌝ }
     ensures { λ r. ⌜ Put (now (text .entry)) 0 (printed (called (now (query .entry)) (now (left .entry)) (now (right .entry)))) (now (text .exit)) r ⌝ }
 {
-    let n = vecop_frame::read_readings(left, left_words);
+    let n = frame::read_readings(left, left_words);
     put_right(
         query,
         left,
@@ -165,12 +169,12 @@ pub fn vecop(input: &[u8], text: &mut [u8]) -> usize
     requires { ⌜ maxText ≤ length (now text) ⌝ }
     ensures { λ r. ⌜ Put (now (text .entry)) 0 (vecopText (now (input .entry))) (now (text .exit)) r ⌝ }
 {
-    match vecop_frame::parts_of(input) {
+    match frame::parts_of(input) {
         Parts::Three { query, left } => {
             let b = query + 4;
             let c = left + 4;
             put_called(&input[4..query], &input[b..left], &input[c..], text)
         }
-        Parts::Unreadable => vecop_text::put_unreadable(text),
+        Parts::Unreadable => outcome_text::put_unreadable(text),
     }
 }

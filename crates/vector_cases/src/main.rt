@@ -69,7 +69,7 @@ fn run(s: &[u8]) {
 }
 
 fn main() {
-    let mut input = [0u8; 262144];
+    let mut input = io::large_buffer();
     let n = io::read_full(STDIN_FILENO, &mut input);
     run(&input[..n]);
 }

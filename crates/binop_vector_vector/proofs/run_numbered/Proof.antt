@@ -5,7 +5,7 @@ use Rattle.binop_vector_vector.proofs.run_numbered.Tie as tie
 use Rattle.binop_vector_vector.proofs.run_numbered.Reads as reads
 use Rattle.binop_vector_vector.proofs.run_numbered.Lts as lts
 use Rattle.keyed_sides.proofs.number_kept.Reads as number-kept-reads
-use Rattle.dispatch.proofs.run_keyed.Reads as run-keyed-reads
+use Rattle.binop_vector_vector.proofs.dispatch.run_keyed.Reads as run-keyed-reads
 
 -- src/lib.rt:213:9
 sub-number-kept : tie.Need-sub-number-kept

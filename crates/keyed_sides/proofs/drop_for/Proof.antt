@@ -6,7 +6,7 @@ use Rattle.keyed_sides.proofs.drop_for.Reads as reads
 use Rattle.keyed_sides.proofs.drop_for.Lts as lts
 use Rattle.operator.proofs.Operator.is_comparison.Reads as is-comparison-reads
 use Rattle.operator.proofs.Operator.is_logical_op.Reads as is-logical-op-reads
-use Rattle.key_places.proofs.drop_missing.Reads as drop-missing-reads
+use Rattle.keyed_sides.proofs.dropped.drop_missing.Reads as drop-missing-reads
 
 -- src/lib.rt:117:8
 is-logical-op-requires : tie.Need-is-logical-op-requires

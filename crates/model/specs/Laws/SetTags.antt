@@ -9,7 +9,7 @@ use Rattle.model.specs.Lists.{cases, keep, All}
 use Rattle.model.specs.Labels.{Tag, Labels, sameBytes, below, nameLabel, ascending, valueOf, WellFormed}
 use Rattle.model.specs.Edits.{Names, isListed, insertTag, withoutTag, setOrRemove, setLabel, setListed, copyTags, star, isStar, setTags}
 use Rattle.model.specs.Laws.Lists.{All-map}
-use Rattle.model.specs.Laws.Booleans.{never, both-of}
+use Rattle.model.specs.Laws.Booleans.{never, not-true, and-true, both-of}
 use Rattle.model.specs.Laws.Order.{same-is, is-same, below-other, value-before, value-none, value-here, value-later, ascending-tail, ascending-cons, may-follow, keep-ascending}
 use Rattle.model.specs.Laws.Tags.{SameValues, tags-equal}
 use Rattle.model.specs.Laws.Edits.{set-tags-well}
@@ -231,10 +231,6 @@ value-name p (t ∷ ts) a =
     let g = ascending-tail p t ts a in
     let h = both-of (below p (t .key)) (not (sameBytes (t .key) nameLabel)) (g .0) in
     value-later nameLabel t ts (not-true (sameBytes (t .key) nameLabel) (h .1)) ∙ value-name (t .key) ts (g .1)
-  where
-    not-true : (b : Bool) → not b ≡ true → b ≡ false
-    not-true true e = never e
-    not-true false e = refl
 
 -- the two tests, for a list and for `*`
 
@@ -245,10 +241,6 @@ set-listed joinLabels skip k h = rw h
 set-star : (joinLabels skip : Names) (k : List ℕ) → isStar joinLabels ≡ true → isSet joinLabels skip k ≡ not (isListed skip k)
 unfolding isSet
 set-star joinLabels skip k h = rw h (and-true (not (isListed skip k)))
-  where
-    and-true : (b : Bool) → (b && true) ≡ b
-    and-true true = refl
-    and-true false = refl
 
 stay-listed : (joinLabels skip : Names) (us : List Tag) (k : List ℕ) → isStar joinLabels ≡ false → stays joinLabels skip us k ≡ cond (isSet joinLabels skip k) false true
 unfolding stays

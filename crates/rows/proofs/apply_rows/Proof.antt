@@ -3,8 +3,8 @@ use mathlib.Core.Path.{_∙_}
 use denote.Ref.{now}
 use borrow.Author.Needs.{needs}
 use Rattle.model.specs.Reading.{scalarOp}
-use Rattle.binaryop.specs.Leaves.{nothing}
-use Rattle.binaryop.proofs.Dispatch.{no-scalar}
+use Rattle.rows.specs.Nothing.{nothing}
+use Rattle.rows.proofs.Dispatch.{no-scalar}
 use Rattle.zipping.specs.Zipping.{same-zip}
 use Rattle.rows.proofs.apply_rows.Statement.{statement}
 use Rattle.rows.proofs.apply_rows.Tie as tie

@@ -3,7 +3,7 @@ use Prim.Native.Nat.{_-_}
 use native.Mathlib.Omega.{arith}
 use lib.ListN.{length}
 use borrow.Author.Needs.{needs}
-use Rattle.binaryop.specs.Leaves.{nothing}
+use Rattle.rows.specs.Nothing.{nothing}
 use Rattle.zipping.specs.Zipping.{Written, starts, turn, ends}
 use Rattle.rows.proofs.no_rows.Statement.{statement}
 use Rattle.rows.proofs.no_rows.Tie as tie

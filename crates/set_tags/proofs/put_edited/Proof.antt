@@ -3,8 +3,8 @@ use borrow.Author.Needs.{needs}
 use Rattle.labels.specs.Names.{namesOf}
 use Rattle.model.specs.Record.{encodeTags}
 use Prim.Native.Nat.{_+_}
-use Rattle.edited_tags.specs.Streams.{editedTags}
-use Rattle.edited_tags.proofs.Found.{edit-spans, edit-fewer}
+use Rattle.set_tags.specs.edited_tags.Streams.{editedTags}
+use Rattle.set_tags.proofs.edited_tags.Found.{edit-spans, edit-fewer}
 use Rattle.set_tags.proofs.Loops.{PutLeft, put-start, put-ended, one-room, put-one-tag}
 use Rattle.set_tags.proofs.put_edited.Statement.{statement}
 use Rattle.set_tags.proofs.put_edited.Tie as tie

@@ -1,0 +1,169 @@
+-- The merges of the sides of a pair. Assumes nothing.
+use Prim.Native.Nat.{ℕ, suc, _+_, _-_, _*_, _≤_, _<_}
+use mathlib.Core.Path.{_≡_, refl, sym, ap, _∙_}
+use mathlib.Core.Bool.{Bool, true, false}
+use mathlib.Core.Option.{Option, none, some}
+use mathlib.Core.List.{List}
+use native.Mathlib.Numerals.{add-one}
+use native.Mathlib.Omega.{arith}
+use lib.Dec.{ltb}
+use lib.ListN.{length, getD, take, drop, length-drop, drop-of-length-le}
+use lib.Seq.{drop-cons, length-take-le}
+use borrow.Author.Tests.{ltb-false}
+use Rattle.model.specs.Row.{overwritten, merged}
+use Rattle.model.specs.Query as Model
+use Rattle.semantics.specs.Events.{Duplicate}
+use Rattle.end_codes.specs.Codes.{leftLast, rightLast, CodeOf, left-last, right-last}
+use Rattle.plan.specs.Keys.{firstOf, lastOf, KeyEnds}
+use Rattle.plan.specs.Merging.{RowMerge, row, failedAt, rowAt, mergeLast, clash}
+use Rattle.plan.specs.Conclude.{orElse}
+use Rattle.plan.specs.Pairs.{Sides, isPair, pairClash, pairsClash}
+use Rattle.merging.specs.declared.Merges.{Merges}
+use Rattle.merging.specs.declared.Merges.the-variants.{Done, FailedAt}
+use Rattle.merge.specs.Merging.{mergedIf}
+use Rattle.answers.proofs.Rows.{row-in}
+use Rattle.merging.specs.Groups.{mergesTo, MergedGroup}
+use Rattle.plan.specs.Laws.Ends.{ends-within, several-stand}
+use Rattle.key_places.specs.Planned.{first-last}
+use Rattle.merging.specs.Several.{single-row, none-among, several, several-merged}
+use Rattle.one_to_one.specs.declared.pair_checks.Checked.{Checked}
+use Rattle.one_to_one.specs.declared.pair_checks.Checked.the-variants as C
+use Rattle.one_to_one.specs.pairs.Pairing.{sidesOf, Level, failureOf}
+use Rattle.one_to_one.specs.pair_checks.Checks.{failedIn, clashIn, clashAt}
+
+-- `ensure_merges`
+
+module _ (allowance p : ℕ) (rows keys : List ℕ) (k first last : ℕ) (level : Level p rows keys) (e : KeyEnds keys k first last) (h : first < last) where
+  first-in : first < length keys
+  first-in = several-stand keys k first last e h
+
+  last-in : last < length keys
+  last-in = ends-within keys k first last e first-in
+
+  pub last-there : last * p + p ≤ length rows
+  last-there = omega (arith, row-in last (length keys) p last-in, level .whole)
+
+  pub first-there : first * p + p ≤ length rows
+  first-there = omega (arith, row-in first (length keys) p first-in, level .whole)
+
+  pub last-inside : last ≤ length keys
+  last-inside = omega (arith, last-in)
+
+  pub key-there : firstOf keys k < length keys
+  key-there = rw (← e .first-place) first-in
+
+  module _ (m : Bool) (hm : mergedIf m (rowAt p rows last) (rowAt p rows first) ≡ merged allowance (rowAt p rows last) (rowAt p rows first)) where
+    pub first-fails : m ≡ false → some first ≡ failureOf (mergeLast allowance p rows keys k)
+    first-fails f = rw (several allowance p rows k keys first last e h, ← hm, f)
+
+    pub two-merge : m ≡ true → (r : Bool) → r ≡ ltb (firstOf (take (last - (first + 1)) (drop (first + 1) keys)) k) (last - (first + 1)) → r ≡ false → none ≡ failureOf (mergeLast allowance p rows keys k)
+    two-merge t r hr f = rw (several-merged allowance p rows k keys first last e h (rw t at hm), none-among allowance p rows k between (suc first) (overwritten (rowAt p rows last) (rowAt p rows first)) none-between)
+      where
+        between : List ℕ
+        between = take (last - suc first) (drop (suc first) keys)
+
+        long : length between ≡ last - suc first
+        long = length-take-le (last - suc first) (drop (suc first) keys) (omega (arith, last-in, length-drop (suc first) keys))
+
+        none-between : length between ≤ firstOf between k
+        none-between = rw long (ltb-false (firstOf between k) (last - suc first) (sym (rw (← add-one first) hr) ∙ f))
+
+-- `ensure_single_timeseries`
+
+pub single-fine : (allowance p : ℕ) (rows keys : List ℕ) (k first last : ℕ) → KeyEnds keys k first last → last ≤ first → none ≡ failureOf (mergeLast allowance p rows keys k)
+single-fine allowance p rows keys k first last e le =
+    let same : firstOf keys k ≡ lastOf keys k = omega (arith, first-last k keys, e .first-place, e .last-place, le) in
+    rw (single-row allowance p rows k keys same)
+
+same-failure : (r : Merges) (d : List ℕ) → failedIn r ≡ failureOf (mergesTo r d)
+same-failure Done d = refl
+same-failure (FailedAt i) d = refl
+
+merges-told : (want : RowMerge) (p : ℕ) (d : List ℕ) (r : Merges) → MergedGroup want p d r → failedIn r ≡ failureOf want
+merges-told want p d r m = same-failure r d ∙ ap failureOf (m .answer)
+
+-- the first p words of a work row
+
+module _ (p : ℕ) (work : List ℕ) (h : p ≤ length work) (rows keys : List ℕ) where
+  pub part-room : Level p rows keys → length keys * length (take p work) ≤ length rows
+  part-room l = rw (length-take-le p work h) (omega (arith, l .whole))
+
+  pub part-told : (allowance k : ℕ) (d : List ℕ) (r : Merges) → MergedGroup (mergeLast allowance (length (take p work)) rows keys k) (length (take p work)) d r → failedIn r ≡ failureOf (mergeLast allowance p rows keys k)
+  part-told allowance k d r m = merges-told (mergeLast allowance p rows keys k) p d r (rw (length-take-le p work h) at m)
+
+-- `check_pair`
+
+clash-of : (side : Model.Side) (kept : ℕ) (u : RowMerge) → none ≡ failureOf u → none ≡ clash side kept u
+clash-of side kept (row d) h = refl
+clash-of side kept (failedAt i d) h = absurd (let z : _≡_ {A = ℕ} 0 1 = cc in omega arith)
+
+abbrev duplicateOf : Model.Side → ℕ → ℕ → Duplicate
+duplicateOf side kept i = record { kept = record { side = side; number = kept }; failed = record { side = side; number = i } }
+
+clash-at : (side : Model.Side) (kept i : ℕ) (u : RowMerge) → some i ≡ failureOf u → some (duplicateOf side kept i) ≡ clash side kept u
+clash-at side kept i (row d) h = absurd (let z : _≡_ {A = ℕ} 0 1 = cc in omega arith)
+clash-at side kept i (failedAt j d) h = let z : i ≡ j = cc in rw z
+
+module _ (allowance p : ℕ) (left lkeys right rkeys : List ℕ) (k : ℕ) (a : Merges) (ha : failedIn a ≡ failureOf (mergeLast allowance p left lkeys k)) where
+  abbrev wanted : Option Duplicate
+  wanted = pairClash allowance (sidesOf p left lkeys right rkeys) k
+
+  pub check-left : (c : ℕ) → CodeOf lkeys rkeys k c → (i kept : ℕ) → a ≡ FailedAt i → kept ≡ leftLast c → clashIn (C.Left kept i) ≡ pairClash allowance (sidesOf p left lkeys right rkeys) k
+  check-left c hc i kept e hk =
+      let z : some i ≡ failureOf (mergeLast allowance p left lkeys k) = rw e at ha in
+      rw (← left-last lkeys rkeys k c hc, ← hk, ← clash-at Model.left kept i (mergeLast allowance p left lkeys k) z)
+
+  module _ (e : a ≡ Done) (b : Merges) (hb : failedIn b ≡ failureOf (mergeLast allowance p right rkeys k)) where
+    left-fine : (kept : ℕ) → none ≡ clash Model.left kept (mergeLast allowance p left lkeys k)
+    left-fine kept = clash-of Model.left kept (mergeLast allowance p left lkeys k) (rw e at ha)
+
+    pub check-right : (c : ℕ) → CodeOf lkeys rkeys k c → (i kept : ℕ) → b ≡ FailedAt i → kept ≡ rightLast c → clashIn (C.Right kept i) ≡ pairClash allowance (sidesOf p left lkeys right rkeys) k
+    check-right c hc i kept f hk =
+        let z : some i ≡ failureOf (mergeLast allowance p right rkeys k) = rw f at hb in
+        rw (← left-fine (lastOf lkeys k), ← right-last lkeys rkeys k c hc, ← hk) (clash-at Model.right kept i (mergeLast allowance p right rkeys k) z)
+
+    pub check-fine : b ≡ Done → clashIn C.Fine ≡ pairClash allowance (sidesOf p left lkeys right rkeys) k
+    check-fine f =
+        rw (← left-fine (lastOf lkeys k)) (clash-of Model.right (lastOf rkeys k) (mergeLast allowance p right rkeys k) (rw f at hb))
+
+-- `check_at`
+
+module _ (allowance : ℕ) (s : Sides) (i k : ℕ) (r : Bool) (hr : r ≡ isPair (s .leftKeys) (s .rightKeys) k i) where
+  pub at-pair : r ≡ true → (x : Checked) → clashIn x ≡ pairClash allowance s k → clashIn x ≡ clashAt allowance s i k
+  at-pair h x hx = rw (← hr, h) hx
+
+  pub at-none : r ≡ false → none ≡ clashAt allowance s i k
+  at-none h = rw (← hr, h)
+
+-- the loop of `check_pairs`: the places before i have no clash
+
+pub record Checking (allowance : ℕ) (s : Sides) (i : ℕ) : Type 0 where
+  pub within : i ≤ length (s .leftKeys)
+  pub rest : pairsClash allowance s i (drop i (s .leftKeys)) ≡ pairsClash allowance s 0 (s .leftKeys)
+
+module _ (allowance : ℕ) (s : Sides) where
+  pub check-starts : Checking allowance s 0
+  check-starts = record { within = omega arith; rest = refl }
+
+  module _ (i : ℕ) (inv : Checking allowance s i) where
+    module _ (h : i < length (s .leftKeys)) (x : Checked) (hx : clashIn x ≡ clashAt allowance s i (getD (s .leftKeys) i 0)) where
+      next : orElse (clashIn x) (pairsClash allowance s (suc i) (drop (suc i) (s .leftKeys))) ≡ pairsClash allowance s 0 (s .leftKeys)
+      next = rw hx (sym step ∙ inv .rest)
+        where
+          step : pairsClash allowance s i (drop i (s .leftKeys)) ≡ orElse (clashAt allowance s i (getD (s .leftKeys) i 0)) (pairsClash allowance s (suc i) (drop (suc i) (s .leftKeys)))
+          step = unfold pairsClash in rw (drop-cons (s .leftKeys) i 0 h)
+
+      pub check-turn : x ≡ C.Fine → Checking allowance s (i + 1)
+      check-turn e = record { within = omega arith; rest = rw (add-one i) (rw e at next) }
+
+      pub check-failed-left : (kept failed : ℕ) → x ≡ C.Left kept failed → clashIn (C.Left kept failed) ≡ pairsClash allowance s 0 (s .leftKeys)
+      check-failed-left kept failed e = rw e at next
+
+      pub check-failed-right : (kept failed : ℕ) → x ≡ C.Right kept failed → clashIn (C.Right kept failed) ≡ pairsClash allowance s 0 (s .leftKeys)
+      check-failed-right kept failed e = rw e at next
+
+    pub check-ends : length (s .leftKeys) ≤ i → none ≡ pairsClash allowance s 0 (s .leftKeys)
+    check-ends h = sym none-left ∙ inv .rest
+      where
+        none-left : pairsClash allowance s i (drop i (s .leftKeys)) ≡ none
+        none-left = unfold pairsClash in rw (drop-of-length-le (s .leftKeys) h)

@@ -1,0 +1,24 @@
+-- `check_pair` meets its contract. Assumes nothing.
+use Rattle.one_to_one.proofs.pair_checks.Checks.{check-left, check-right, check-fine}
+use Rattle.end_codes.specs.Codes.{left-ends, right-ends}
+use borrow.Author.Needs.{needs}
+use Rattle.one_to_one.proofs.pair_checks.check_pair.Statement.{statement}
+use Rattle.one_to_one.proofs.pair_checks.check_pair.Tie as tie
+
+pub check-pair-spec : {M : Type 1} → statement M
+check-pair-spec =
+    tie.close
+    (tie.spec
+    (λ c κs. search needs)
+    (λ c κs. search needs)
+    (λ c κs. (search needs, search left-ends))
+    (λ c. search needs)
+    (λ c. search needs)
+    (λ c κs. search needs)
+    (λ c κs. search needs)
+    (λ c κs. (search needs, search right-ends))
+    (λ c. search needs)
+    (λ c. search needs)
+    (λ c. search check-left)
+    (λ c. search check-right)
+    (λ c. search check-fine))

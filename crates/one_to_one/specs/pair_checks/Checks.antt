@@ -1,0 +1,26 @@
+-- What the merges of one-to-one come to, as the code tells it. Assumes nothing.
+use Prim.Native.Nat.{ℕ}
+use mathlib.Core.Bool.{cond}
+use mathlib.Core.Option.{Option, none, some}
+use Rattle.model.specs.Query as Model
+use Rattle.semantics.specs.Events.{Duplicate}
+use Rattle.plan.specs.Pairs.{Sides, isPair, pairClash}
+use Rattle.merging.specs.declared.Merges.{Merges}
+use Rattle.merging.specs.declared.Merges.the-variants.{Done, FailedAt}
+use Rattle.one_to_one.specs.declared.pair_checks.Checked.{Checked}
+use Rattle.one_to_one.specs.declared.pair_checks.Checked.the-variants as C
+
+-- the place of the series that failed to merge
+abbrev pub failedIn : Merges → Option ℕ
+failedIn Done = none
+failedIn (FailedAt i) = some i
+
+-- 01: fields are the input places of the series kept and the one that failed to merge
+abbrev pub clashIn : Checked → Option Duplicate
+clashIn C.Fine = none
+clashIn (C.Left kept failed) = some (record { kept = record { side = Model.left; number = kept }; failed = record { side = Model.left; number = failed } })
+clashIn (C.Right kept failed) = some (record { kept = record { side = Model.right; number = kept }; failed = record { side = Model.right; number = failed } })
+
+-- the clash at the left place i, whose key is k
+abbrev pub clashAt : ℕ → Sides → ℕ → ℕ → Option Duplicate
+clashAt allowance s i k = cond (isPair (s .leftKeys) (s .rightKeys) k i) (pairClash allowance s k) none

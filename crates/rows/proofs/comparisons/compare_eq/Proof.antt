@@ -1,0 +1,10 @@
+-- `compare_eq` meets its contract, from those of its calls. Assumes nothing.
+use Rattle.rows.proofs.comparisons.Comparing.{told}
+use Rattle.rows.proofs.comparisons.compare_eq.Statement.{statement}
+use Rattle.rows.proofs.comparisons.compare_eq.Tie as tie
+
+returns : tie.Need-returns
+returns c = search told
+
+pub compare-eq-spec : {M : Type 1} → statement M
+compare-eq-spec = tie.close (tie.spec (λ c κs. tt) (λ c κs. tt) returns)

@@ -1,0 +1,10 @@
+-- `compare_lte` meets its contract, from those of its calls. Assumes nothing.
+use Rattle.rows.proofs.comparisons.Comparing.{told}
+use Rattle.rows.proofs.comparisons.compare_lte.Statement.{statement}
+use Rattle.rows.proofs.comparisons.compare_lte.Tie as tie
+
+returns : tie.Need-returns
+returns c = search told
+
+pub compare-lte-spec : {M : Type 1} → statement M
+compare-lte-spec = tie.close (tie.spec (λ c κs. tt) (λ c κs. tt) returns)

@@ -1,0 +1,129 @@
+// The six comparisons of two readings, plain and bool.
+ghost use mathlib.Core.Path.{_≡_};
+ghost use mathlib.Core.Bool.{_||_};
+ghost use lib.Ieee.{binary64, ofBits, eq};
+ghost use Rattle.operator.specs.Kinds.{equal, unequal, less, atMost, greater, atLeast};
+ghost use Rattle.model.specs.Reading.{holds, compared, oneOrZero};
+ghost use Rattle.rows.specs.comparisons.Values.{comparisonValue};
+
+fn either(a: bool, b: bool) -> bool
+    ensures { λ r. ⌜ r ≡ a || b ⌝ }
+{
+    if a { true } else { b }
+}
+
+// Whether both are readings and equal.
+fn same(left: u64, right: u64) -> bool
+    ensures { λ r. ⌜ r ≡ eq (ofBits binary64 left) (ofBits binary64 right) ⌝ }
+{
+    if reading::gaps(left, right) > 0 {
+        return false;
+    }
+    f64::from_bits(left) == f64::from_bits(right)
+}
+
+// Two missing readings are equal.
+fn op_eq(left: u64, right: u64) -> bool
+    ensures { λ r. ⌜ r ≡ holds equal left right ⌝ }
+{
+    either(reading::gaps(left, right) > 1, same(left, right))
+}
+
+fn op_neq(left: u64, right: u64) -> bool
+    ensures { λ r. ⌜ r ≡ holds unequal left right ⌝ }
+{
+    !op_eq(left, right)
+}
+
+fn op_lt(left: u64, right: u64) -> bool
+    ensures { λ r. ⌜ r ≡ holds less left right ⌝ }
+{
+    if reading::gaps(left, right) > 0 {
+        return false;
+    }
+    f64::from_bits(left) < f64::from_bits(right)
+}
+
+fn op_lte(left: u64, right: u64) -> bool
+    ensures { λ r. ⌜ r ≡ holds atMost left right ⌝ }
+{
+    if reading::gaps(left, right) > 0 {
+        return false;
+    }
+    f64::from_bits(left) <= f64::from_bits(right)
+}
+
+fn op_gt(left: u64, right: u64) -> bool
+    ensures { λ r. ⌜ r ≡ holds greater left right ⌝ }
+{
+    if reading::gaps(left, right) > 0 {
+        return false;
+    }
+    f64::from_bits(right) < f64::from_bits(left)
+}
+
+fn op_gte(left: u64, right: u64) -> bool
+    ensures { λ r. ⌜ r ≡ holds atLeast left right ⌝ }
+{
+    if reading::gaps(left, right) > 0 {
+        return false;
+    }
+    f64::from_bits(right) <= f64::from_bits(left)
+}
+
+fn one_or_zero(b: bool) -> u64
+    ensures { λ r. ⌜ r ≡ oneOrZero b ⌝ }
+{
+    if b { 0x3ff0_0000_0000_0000 } else { 0 }
+}
+
+// What a comparison gives, by whether it holds.
+fn to_comparison_value(holds: bool, left: u64, bool: bool) -> u64
+    ensures { λ r. ⌜ r ≡ comparisonValue bool holds left ⌝ }
+{
+    if bool {
+        reading::pick(
+            reading::is_missing(left),
+            reading::MISSING,
+            one_or_zero(holds),
+        )
+    } else {
+        reading::pick(holds, left, reading::MISSING)
+    }
+}
+
+pub(crate) fn compare_eq(left: u64, right: u64, bool: bool) -> u64
+    ensures { λ r. ⌜ r ≡ compared bool equal left right ⌝ }
+{
+    to_comparison_value(op_eq(left, right), left, bool)
+}
+
+pub(crate) fn compare_neq(left: u64, right: u64, bool: bool) -> u64
+    ensures { λ r. ⌜ r ≡ compared bool unequal left right ⌝ }
+{
+    to_comparison_value(op_neq(left, right), left, bool)
+}
+
+pub(crate) fn compare_lt(left: u64, right: u64, bool: bool) -> u64
+    ensures { λ r. ⌜ r ≡ compared bool less left right ⌝ }
+{
+    to_comparison_value(op_lt(left, right), left, bool)
+}
+
+pub(crate) fn compare_lte(left: u64, right: u64, bool: bool) -> u64
+    ensures { λ r. ⌜ r ≡ compared bool atMost left right ⌝ }
+{
+    to_comparison_value(op_lte(left, right), left, bool)
+}
+
+pub(crate) fn compare_gt(left: u64, right: u64, bool: bool) -> u64
+    ensures { λ r. ⌜ r ≡ compared bool greater left right ⌝ }
+{
+    to_comparison_value(op_gt(left, right), left, bool)
+}
+
+pub(crate) fn compare_gte(left: u64, right: u64, bool: bool) -> u64
+    ensures { λ r. ⌜ r ≡ compared bool atLeast left right ⌝ }
+{
+    to_comparison_value(op_gte(left, right), left, bool)
+}

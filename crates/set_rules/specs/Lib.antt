@@ -1,0 +1,3 @@
+pub mod Answers
+pub mod set_points
+pub mod binaryop

@@ -1,0 +1,211 @@
+// What the program prints for an outcome, written into a lent buffer.
+use crate::label_text::put_digits;
+use crate::label_text::put_labels;
+use answers::Outcome;
+use label_records::Record;
+use writing::put_byte;
+use writing::put_bytes;
+ghost use mathlib.Core.Path.{_≡_};
+ghost use Prim.Native.Nat.{_+_, _*_, _≤_};
+ghost use lib.ListN.{length};
+ghost use Rattle.writing.specs.Written.{Put};
+ghost use Rattle.record_tags.specs.Lenient.{labelsOf};
+ghost use Rattle.answers.specs.Outcomes.{told};
+ghost use Rattle.vecop_run.specs.label_text.Numerals.{digitCount, decimal};
+ghost use Rattle.vecop_run.specs.outcome_text.Text.{readingText, rowText, lineText, linesText, twoNumbers, answerText, refusalText, unreadableText};
+ghost use Rattle.vecop_run.specs.outcome_text.Told.{toldAs, toldText, Within};
+
+fn digit_count(n: usize) -> usize
+    ensures { λ r. ⌜ r ≡ digitCount 20 n ⌝ }
+{
+    let mut k: usize = 0;
+    let mut rest = n;
+    while k < 20 {
+        if rest < 10 {
+            return k + 1;
+        }
+        rest /= 10;
+        k += 1;
+    }
+    k
+}
+
+fn put_decimal(out: &mut [u8], at: usize, n: usize) -> usize
+    requires { ⌜ at + length (decimal n) ≤ length (now out) ⌝ }
+    ensures { λ r. ⌜ Put (now (out .entry)) at (decimal n) (now (out .exit)) r ⌝ }
+{
+    put_digits(out, at, 10, digit_count(n), n as u64)
+}
+
+fn put_reading(out: &mut [u8], at: usize, x: u64) -> usize
+    requires { ⌜ at + length (readingText x) ≤ length (now out) ⌝ }
+    ensures { λ r. ⌜ Put (now (out .entry)) at (readingText x) (now (out .exit)) r ⌝ }
+{
+    let o = put_byte(out, at, b' ');
+    put_digits(out, o, 16, 16, x)
+}
+
+fn put_row(out: &mut [u8], at: usize, row: &[u64]) -> usize
+    requires { ⌜ at + length (rowText (now row)) ≤ length (now out) ⌝ }
+    ensures { λ r. ⌜ Put (now (out .entry)) at (rowText (now (row .entry))) (now (out .exit)) r ⌝ }
+{
+    let mut o = at;
+    let mut i: usize = 0;
+    while i < row.len() {
+        o = put_reading(out, o, row[i]);
+        i += 1;
+    }
+    o
+}
+
+fn put_line(out: &mut [u8], at: usize, rec: &[u8], row: &[u64]) -> usize
+    requires { ⌜ at + length (lineText (labelsOf (now rec)) (now row)) ≤ length (now out) ⌝ }
+    ensures { λ r. ⌜ Put (now (out .entry)) at (lineText (labelsOf (now (rec .entry))) (now (row .entry))) (now (out .exit)) r ⌝ }
+{
+    let o = put_labels(out, at, rec);
+    let p = put_row(out, o, row);
+    put_byte(out, p, b'\n')
+}
+
+// A line a series: the records one behind another, and rows of p readings.
+fn put_lines(
+    out: &mut [u8],
+    at: usize,
+    n: usize,
+    p: usize,
+    labels: &[u8],
+    readings: &[u64],
+) -> usize
+    requires { ⌜ at + length (linesText n p (now labels) (now readings)) ≤ length (now out) ⌝ }
+    requires { ⌜ n * p ≤ length (now readings) ⌝ }
+    ensures { λ r. ⌜ Put (now (out .entry)) at (linesText n p (now (labels .entry)) (now (readings .entry))) (now (out .exit)) r ⌝ }
+{
+    let mut o = at;
+    let mut from: usize = 0;
+    let mut row: usize = 0;
+    let mut left = n;
+    while 0 < left {
+        match label_records::read_record(labels, from) {
+            Record::Ok { next } => {
+                let end = row + p;
+                o = put_line(out, o, &labels[from..next], &readings[row..end]);
+                from = next;
+                row = end;
+                left -= 1;
+            }
+            Record::Cut => return o,
+            Record::BadKey => return o,
+        }
+    }
+    o
+}
+
+fn put_two(out: &mut [u8], at: usize, a: usize, b: usize) -> usize
+    requires { ⌜ at + length (twoNumbers a b) ≤ length (now out) ⌝ }
+    ensures { λ r. ⌜ Put (now (out .entry)) at (twoNumbers a b) (now (out .exit)) r ⌝ }
+{
+    let p = put_decimal(out, at, a);
+    let q = put_byte(out, p, b' ');
+    let r = put_decimal(out, q, b);
+    put_byte(out, r, b'\n')
+}
+
+fn put_answer(out: &mut [u8], n: usize, p: usize, labels: &[u8], readings: &[u64]) -> usize
+    requires { ⌜ length (answerText n p (now labels) (now readings)) ≤ length (now out) ⌝ }
+    requires { ⌜ n * p ≤ length (now readings) ⌝ }
+    ensures { λ r. ⌜ Put (now (out .entry)) 0 (answerText n p (now (labels .entry)) (now (readings .entry))) (now (out .exit)) r ⌝ }
+{
+    let o = put_bytes(out, 0, b"answer ");
+    let q = put_two(out, o, n, p);
+    put_lines(out, q, n, p, labels, readings)
+}
+
+fn put_refusal(out: &mut [u8], number: usize, a: usize, b: usize) -> usize
+    requires { ⌜ length (refusalText number a b) ≤ length (now out) ⌝ }
+    ensures { λ r. ⌜ Put (now (out .entry)) 0 (refusalText number a b) (now (out .exit)) r ⌝ }
+{
+    let o = put_bytes(out, 0, b"refused ");
+    let p = put_decimal(out, o, number);
+    let q = put_byte(out, p, b' ');
+    put_two(out, q, a, b)
+}
+
+// An outcome with 01's numbers.
+enum Told {
+    Answer {
+        series: usize,
+        points: usize,
+        bytes: usize,
+    },
+    Refusal {
+        number: usize,
+        first: usize,
+        second: usize,
+    },
+}
+
+fn told_as(x: Outcome) -> Told
+    ensures { λ r. ⌜ r ≡ toldAs (told x) ⌝ }
+{
+    match x {
+        Outcome::Answer {
+            series,
+            points,
+            bytes,
+        } => Told::Answer {
+            series,
+            points,
+            bytes,
+        },
+        Outcome::BadOperator => refusal(1, 0, 0),
+        Outcome::Malformed => refusal(2, 0, 0),
+        Outcome::Cut { side, place } => refusal(3, side, place),
+        Outcome::BadKey { side, place } => refusal(4, side, place),
+        Outcome::Readings { side } => refusal(5, side, 0),
+        Outcome::Unequal => refusal(6, 0, 0),
+        Outcome::LeftTwice { kept, failed } => refusal(7, kept, failed),
+        Outcome::RightTwice { kept, failed } => refusal(8, kept, failed),
+        Outcome::TooLarge => refusal(9, 0, 0),
+        Outcome::TooLong => refusal(10, 0, 0),
+    }
+}
+
+fn refusal(number: usize, first: usize, second: usize) -> Told
+    ensures { λ r. ⌜ r ≡ Told.Refusal number first second ⌝ }
+{
+    Told::Refusal {
+        number,
+        first,
+        second,
+    }
+}
+
+// Writes the text of an outcome, whose answer stands at the start of the output parts, and gives its length.
+pub(crate) fn put_outcome(out: &mut [u8], x: Outcome, labels: &[u8], readings: &[u64]) -> usize
+    requires { ⌜ Within (told x) (now labels) (now readings) ⌝ }
+    requires { ⌜ length (toldText (told x) (now labels) (now readings)) ≤ length (now out) ⌝ }
+    ensures { λ r. ⌜ Put (now (out .entry)) 0 (toldText (told x) (now (labels .entry)) (now (readings .entry))) (now (out .exit)) r ⌝ }
+{
+    match told_as(x) {
+        Told::Answer {
+            series,
+            points,
+            bytes,
+        } => {
+            let k = series * points;
+            put_answer(out, series, points, &labels[..bytes], &readings[..k])
+        }
+        Told::Refusal {
+            number,
+            first,
+            second,
+        } => put_refusal(out, number, first, second),
+    }
+}
+
+pub(crate) fn put_unreadable(out: &mut [u8]) -> usize
+    requires { ⌜ 11 ≤ length (now out) ⌝ }
+    ensures { λ r. ⌜ Put (now (out .entry)) 0 unreadableText (now (out .exit)) r ⌝ }
+{
+    put_bytes(out, 0, b"unreadable\n")
+}
