@@ -4,15 +4,16 @@
 Needs: python3 (its standard library alone); `promtool`, which Debian's package `prometheus` brings; a built vecop program.
 Installs nothing.
 
-    oracle/promtool.py --vecop PROGRAM [--promtool PROGRAM] [--seed N] [--cases N]
+    oracle/promtool.py --vecop WORDS [--promtool PROGRAM] [--seed N] [--cases N]
 
 Random cases of `and`, `unless`, one-to-one operators and group joins are run through vecop, and its answer is the expected
 result of a unit test of promtool at each point. Samples are an hour apart, so that with Prometheus' look-back of five minutes an
 hour without a sample is empty. The sides are told apart by metric name, l and r, which is never in the key.
 
 What is left out, because Prometheus refuses it or reads it in another way: several one-side series a key; two series of a key
-with a reading at the same point, on either side of a one-to-one operator; equal labels in a result; empty tag values; `or`,
-`if`, `ifnot`, `default`, keep names and `*`, which Prometheus lacks or reads in another way; readings that would make a NaN.
+with a reading at the same point, on either side of a one-to-one operator; equal labels in a result; a label in `on` and in a
+join list; empty tag values; `or`, `if`, `ifnot`, `default`, keep names and `*`, which Prometheus lacks or reads in another way;
+readings that would make a NaN. docs/DIFFERENCES.md says for each how the two read it.
 
 Comparisons are expected to differ at exactly the points where a matched right reading is missing: there Prometheus has no
 element. Those points are counted, and the expected result is without them.
@@ -21,14 +22,16 @@ import argparse
 import os
 import random
 import shutil
-import struct
 import subprocess
 import sys
 import tempfile
 
-OPERATORS = {"+": 0, "/": 4, "==": 5, "%": 6, "*": 7, "-": 9, ">": 10, ">=": 11, "<": 14, "<=": 15, "!=": 16}
+sys.path.insert(0, os.path.join(os.path.dirname(os.path.realpath(__file__)), "..", "tests"))
+import wire  # noqa: E402 - the encoder that the test data is made with
+
+OPERATORS = ("+", "/", "==", "%", "*", "-", ">", ">=", "<", "<=", "!=")
 COMPARISONS = ("==", "!=", ">", ">=", "<", "<=")
-SETS = {"and": 1, "unless": 18}
+SETS = ("and", "unless")
 KEYS = ("a", "b", "c")
 VALUES = ("x", "y")
 BATCH = 200
@@ -41,7 +44,7 @@ class Case:
         self.points = rng.randint(1, 6)
         kind = rng.choice(("set", "one-to-one", "group_left", "group_right"))
         self.kind = kind
-        self.op = rng.choice(tuple(SETS)) if kind == "set" else rng.choice(tuple(OPERATORS))
+        self.op = rng.choice(SETS) if kind == "set" else rng.choice(OPERATORS)
         self.matching = rng.choice((None, "on", "ignoring"))
         self.listed = rng.sample(KEYS, rng.randint(0, 2)) if self.matching else []
         self.included = rng.sample(KEYS, rng.randint(0, 2)) if kind.startswith("group") else []
@@ -106,10 +109,11 @@ class Case:
         return found
 
     def query(self):
-        number = SETS.get(self.op, OPERATORS.get(self.op))
-        join = {"group_left": 1, "group_right": 2}.get(self.kind, 0)
-        head = bytes((number, (None, "on", "ignoring").index(self.matching), join, 2 if self.bool else 0))
-        return head + listed(self.listed) + listed(self.included)
+        matching = {None: wire.ALL, "on": wire.ON, "ignoring": wire.IGNORING}[self.matching]
+        join = {"group_left": wire.GROUP_LEFT, "group_right": wire.GROUP_RIGHT}.get(self.kind, wire.ONE_TO_ONE)
+        flags = wire.BOOL if self.bool else 0
+        lists = [[label.encode() for label in labels] for labels in (self.listed, self.included)]
+        return wire.query(wire.OPERATORS.index(self.op), matching, join, flags, *lists)
 
     def expression(self):
         words = ["l", self.op]
@@ -125,27 +129,16 @@ class Case:
         return " ".join(words + ["r"])
 
 
-def listed(labels):
-    return bytes((len(labels),)) + b"".join(bytes((len(k),)) + k.encode() for k in labels)
+def vector(name, side, points):
+    def record(labels):
+        return wire.record(name, [(key.encode(), labels[key].encode()) for key in sorted(labels)])
+    return wire.vector(points, [(record(labels), [wire.bits(r) for r in row]) for labels, row in side])
 
 
-def part(name, side, points):
-    array = b""
-    for labels, _ in side:
-        array += bytes((len(name),)) + name.encode() + bytes((len(labels),))
-        for key in sorted(labels):
-            array += bytes((len(key),)) + key.encode() + bytes((len(labels[key]),)) + labels[key].encode()
-    readings = b"".join(
-        struct.pack("<Q", 0x7FF8000000000000) if r is None else struct.pack("<d", r) for _, row in side for r in row
-    )
-    return struct.pack("<HHH", len(side), points, len(array)) + array + readings
-
-
-def vecop(program, case):
+def vecop(words, case):
     """The answer's series, each its labels and its row, or the refusal's line. Labels here need no escapes."""
-    parts = (case.query(), part("l", case.left, case.points), part("r", case.right, case.points))
-    framed = b"".join(struct.pack("<I", len(p)) + p for p in parts)
-    lines = subprocess.run([program], input=framed, stdout=subprocess.PIPE, check=True).stdout.decode().splitlines()
+    framed = wire.frame(case.query(), vector(b"l", case.left, case.points), vector(b"r", case.right, case.points))
+    lines = subprocess.run(words, input=framed, stdout=subprocess.PIPE, check=True).stdout.decode().splitlines()
     if not lines[0].startswith("answer "):
         return lines[0]
     rows = []
@@ -155,8 +148,8 @@ def vecop(program, case):
         labels = {k: v.strip('"') for k, v in (t.split("=") for t in tags.split(",") if t)}
         if name:
             labels["__name__"] = name
-        bits = [struct.pack("<Q", int(w, 16)) for w in words]
-        rows.append((labels, [None if v != v else v for (v,) in (struct.unpack("<d", b) for b in bits)]))
+        values = [wire.value(int(w, 16)) for w in words]
+        rows.append((labels, [None if v != v else v for v in values]))
     return rows
 
 
@@ -215,12 +208,13 @@ def judge(promtool, tests):
 
 def main():
     parser = argparse.ArgumentParser(description="Holds a vecop program against Prometheus, point by point.")
-    parser.add_argument("--vecop", required=True)
+    parser.add_argument("--vecop", required=True, help="the words that run vecop: a path, or a loader with what it takes")
     parser.add_argument("--promtool", default="promtool")
     parser.add_argument("--seed", type=int, default=1)
     parser.add_argument("--cases", type=int, default=4000)
     args = parser.parse_args()
-    for program, need in ((args.promtool, "Debian's package `prometheus` brings it"), (args.vecop, "build it first")):
+    words = args.vecop.split()
+    for program, need in ((args.promtool, "Debian's package `prometheus` brings it"), (words[0], "build it first")):
         if shutil.which(program) is None:
             sys.exit("%s is not there: %s" % (program, need))
     rng = random.Random(args.seed)
@@ -242,7 +236,7 @@ def main():
 
     while sum(kinds.values()) < args.cases:
         case = Case(rng)
-        rows = vecop(args.vecop, case)
+        rows = vecop(words, case)
         if isinstance(rows, str):
             failed += 1
             print("%s: %s" % (case.expression(), rows))

@@ -33,7 +33,8 @@ pub enum Known {
     /// 01: every many-side series meets its match. The Rust's `group_join` empties the one side on the first of a key, and so
     /// also misses a duplicate that only a later one would show.
     JoinUsesUp,
-    /// 01: the first duplicate in answer order is named. The Rust names that of the key which its hash map gives first.
+    /// 01: the first duplicate in answer order is named. The Rust names that of the key which its hash map gives first, and within
+    /// one many-side series the first merge that fails as it drains the one side.
     WhichDuplicate,
     /// 01: over 512 series, 32 tags or 65,535 label bytes are refused with 9. The Rust has no limits.
     NoLimits,
@@ -114,7 +115,7 @@ enum Detail {
     /// Equal but for the patterns of NaNs.
     NanBits,
     Duplicate,
-    /// A duplicate that is not the first in answer order.
+    /// A duplicate that the Rust comes to and that is not the first in answer order.
     OtherDuplicate,
 }
 
@@ -122,6 +123,7 @@ fn agrees(left: &Vector, right: &Vector, events: &[Event], given: &Given) -> Res
     let mut events = events.to_vec();
     events.sort_by_key(|e| e.rank);
     let endings: Vec<String> = events.iter().filter_map(|e| ending(left, right, &e.what)).collect();
+    let met: Vec<String> = events.iter().filter(|e| is_met(&events, e)).filter_map(|e| ending(left, right, &e.what)).collect();
     let mut expected: Vec<Series> = events
         .into_iter()
         .filter_map(|e| match e.what {
@@ -130,11 +132,11 @@ fn agrees(left: &Vector, right: &Vector, events: &[Event], given: &Given) -> Res
         })
         .collect();
     match given {
-        Given::Duplicate(message) => match endings.iter().position(|e| named(message, e)) {
-            Some(0) => Ok(Detail::Duplicate),
-            Some(_) => Ok(Detail::OtherDuplicate),
-            None => Err(format!("the Rust says `{message}`, the reference {endings:?}")),
-        },
+        Given::Duplicate(message) if !met.iter().any(|e| named(message, e)) => {
+            Err(format!("the Rust says `{message}`, the reference {endings:?}"))
+        }
+        Given::Duplicate(message) if named(message, &endings[0]) => Ok(Detail::Duplicate),
+        Given::Duplicate(_) => Ok(Detail::OtherDuplicate),
         Given::Answer(series) if endings.is_empty() => {
             let mut series = series.clone();
             let exact = sorted(&mut series) == sorted(&mut expected);
@@ -154,6 +156,17 @@ fn agrees(left: &Vector, right: &Vector, events: &[Event], given: &Given) -> Res
         Given::OtherError(message) => Err(format!("the Rust errs, `{message}`, the reference {endings:?}, else {expected:x?}")),
         Given::Panic => Err(format!("the Rust panics, the reference {endings:?}, else {expected:x?}")),
     }
+}
+
+/// Whether the Rust comes to this duplicate: it drains the one side in order, so of several of one many-side series it meets that
+/// whose failed place is lowest.
+fn is_met(events: &[Event], event: &Event) -> bool {
+    let failed_at = |e: &Event| match e.what {
+        What::Duplicate { failed, .. } => Some(failed),
+        What::Series(_) => None,
+    };
+    let same_series = events.iter().filter(|e| e.rank.0 == event.rank.0);
+    failed_at(event).is_some() && same_series.filter_map(failed_at).min() == failed_at(event)
 }
 
 fn sorted(series: &mut [Series]) -> &mut [Series] {

@@ -1,5 +1,5 @@
 //! Each known difference with the smallest input that shows it, shown again at every run.
-use reference::{Call, Join, Labels, Operator, Query, Series, Vector, MISSING};
+use reference::{Call, Join, Labels, Matching, Operator, Query, Series, Vector, MISSING};
 
 use crate::cases::{call, labels, plain, ROOM};
 use crate::compare::{compare, Known, Verdict};
@@ -48,7 +48,7 @@ pub fn examples(known: Known) -> Vec<(&'static str, Call)> {
         Known::JoinUsesUp => {
             let join = Query { join: Join::GroupLeft, ..query(Operator::Add) };
             let two = side(1, vec![bare(&[1.0]), bare(&[2.0])]);
-            let all = Query { matching: reference::Matching::On, join_list: vec![b"*".to_vec()], ..join.clone() };
+            let all = Query { matching: Matching::On, join_list: vec![b"*".to_vec()], ..join.clone() };
             let shown_by_second = side(1, vec![bare(&[1.0]), tagged(b"c", b"", &[1.0])]);
             let ones = side(1, vec![tagged(b"c", b"", &[1.0]), bare(&[1.0])]);
             vec![
@@ -66,6 +66,12 @@ pub fn examples(known: Known) -> Vec<(&'static str, Call)> {
             let mut both = vec![("two duplicates", twice(b"", b"x")), ("the same, keys exchanged", twice(b"x", b""))];
             both.sort_by_key(|(_, c)| compare(c) != Verdict::Known(known));
             both.truncate(1);
+            // Of one many-side series the merge of c="a" comes first in answer order, and that of c="b" fails first.
+            let on = Query { matching: Matching::On, join: Join::GroupLeft, ..query(Operator::Add) };
+            let by_c = Query { join_list: vec![b"c".to_vec()], ..on };
+            let ones = [b"a0", b"b1", b"b2", b"a3"].map(|[c, d]| one(labels(b"", &[(b"c", &[*c]), (b"d", &[*d])]), &[1.0]));
+            let drained = given(&by_c, side(1, vec![bare(&[1.0])]), side(1, ones.to_vec()));
+            both.push(("two duplicates of one many-side series", drained));
             both
         }
         Known::NoLimits => {

@@ -14,16 +14,19 @@ pub trait Library {
 
 /// The program `vecop`, run once a call. Its output parts have their own lengths, so the call's room is not looked at.
 pub struct Program {
-    pub path: String,
+    /// The words that run it, parted by spaces: a path, or a loader with what it takes.
+    pub words: String,
 }
 
 impl Program {
     pub fn prints(&self, input: &[u8]) -> Result<Vec<u8>, String> {
-        let mut child = Command::new(&self.path)
+        let mut words = self.words.split_whitespace();
+        let mut child = Command::new(words.next().unwrap_or_default())
+            .args(words)
             .stdin(Stdio::piped())
             .stdout(Stdio::piped())
             .spawn()
-            .map_err(|e| format!("{}: {e}", self.path))?;
+            .map_err(|e| format!("{}: {e}", self.words))?;
         let mut stdin = child.stdin.take().expect("piped");
         let mut stdout = child.stdout.take().expect("piped");
         // It reads all before it prints; where it stops reading at its limit, the pipe may be closed on us.
@@ -35,7 +38,7 @@ impl Program {
         if status.success() {
             Ok(printed)
         } else {
-            Err(format!("{} ended with {status}", self.path))
+            Err(format!("{} ended with {status}", self.words))
         }
     }
 
@@ -51,7 +54,7 @@ impl Program {
 
 impl Library for Program {
     fn name(&self) -> String {
-        format!("vecop ({})", self.path)
+        format!("vecop ({})", self.words)
     }
 
     fn check(&mut self, call: &Call) -> Result<(), String> {

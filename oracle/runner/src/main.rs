@@ -17,12 +17,12 @@ struct Options {
     differences: bool,
 }
 
-const USAGE: &str = "oracle [--seed N] [--cases N] [--vecop PROGRAM] [--show N]\n\
+const USAGE: &str = "oracle [--seed N] [--cases N] [--vecop WORDS] [--show N]\n\
     oracle --sample FOLDER\n\
     oracle --differences\n\
     --seed     of the random cases (1)\n\
     --cases    random cases an operator (20000)\n\
-    --vecop    compares this vecop with the reference, and leaves the Rust aside\n\
+    --vecop    compares the vecop that these words run with the reference, and leaves the Rust aside\n\
     --show     how many differences are printed in full (5)\n\
     --sample   writes the fixed sample of the Rust's answers into this folder\n\
     --differences   prints the listed differences with their smallest inputs";
@@ -68,7 +68,7 @@ fn main() -> ExitCode {
     }
     let mut good = true;
     match &o.vecop {
-        Some(path) => good &= program(&o, Program { path: path.clone() }),
+        Some(words) => good &= program(&o, Program { words: words.clone() }),
         None => {
             good &= known::shown();
             good &= against_rust(&o);
