@@ -1,8 +1,11 @@
-"""Tests of `quote`: python3 -m unittest discover -s tests -p '*_test.py'. Those of whole runs need target/bin/vecop."""
+"""Tests of `quote`: python3 -m unittest discover -s tests -p '*_test.py'. Those of whole runs need target/bin/vecop, or the program that
+VECOP names; with VECOP empty they are left out."""
 import importlib.machinery
 import importlib.util
 import io
 import os
+import re
+import shlex
 import struct
 import tempfile
 import unittest
@@ -85,6 +88,16 @@ class Runs(unittest.TestCase):
 
     def test_the_scope_document_s_example(self):
         self.assertEqual(self.quoted('/', 'fed{press="A"} 10 - 6\n', 'waste{press="A"} 2 1 3\n'), (0, '{press="A"}  5  -  2\n', ''))
+
+    def test_the_readme_s_first_quote(self):
+        with open(os.path.join(ROOT, 'README.md'), encoding='utf-8') as file:
+            command, printed = re.findall(r'(?:^    .*\n)+', file.read(), re.M)[:2]
+        query, *words = shlex.split(command.partition('./quote')[2])
+        paths = [os.path.join(ROOT, word) if word.endswith('.txt') else word for word in words]
+        out = io.StringIO()
+        with redirect_stdout(out):
+            self.assertEqual(quote.main([query, *paths, '--vecop', VECOP]), 0)
+        self.assertEqual(out.getvalue(), re.sub('^    ', '', printed, flags=re.M))
 
     def test_every_form_gets_the_shared_rate(self):
         left = ''.join(f'fed{{press="A",form="{i}"}} {i}\n' for i in range(1, 7))

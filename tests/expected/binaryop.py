@@ -1,21 +1,13 @@
-#!/usr/bin/env python3
-"""Writes crates/test_binaryop/stdin and stdout: cases, and what docs/01-scope.md says of them, worked out here by the
-host's binary64 and fmod, apart from the program. Run it in the repository."""
+"""crates/test_binaryop: cases, and what 01 says of them, worked out here by the host's binary64 and fmod, apart from the program."""
 import math
 import random
 import struct
 
+from wire import MISSING as N
+from wire import bits, readings, value
+
 random.seed(7)
-N = 0x7ff8000000000000
 cases, lines = [], []
-
-
-def value(x):
-    return struct.unpack('<d', struct.pack('<Q', x))[0]
-
-
-def bits(x):
-    return N if x != x else struct.unpack('<Q', struct.pack('<d', x))[0]
 
 
 def missing(x):
@@ -54,8 +46,7 @@ def scalar(op, as_bool, l, r):
 
 
 def case(what, op, as_bool, l, r, *answers):
-    words = b''.join(struct.pack('<Q', x) for x in l + r)
-    cases.append(struct.pack('<BBBBHH', what, op, as_bool, 0, len(l), len(r)) + words)
+    cases.append(struct.pack('<BBBBHH', what, op, as_bool, 0, len(l), len(r)) + readings(l + r))
     lines.extend(answers)
 
 
@@ -80,7 +71,7 @@ def merge(allowance, d, s):
 
 
 def row(*xs):
-    return [N if x is None else bits(float(x)) for x in xs]
+    return [bits(x) for x in xs]
 
 
 # 01's examples
@@ -127,7 +118,4 @@ for k in range(5):
 merge(2, [N, 0xfff0000000abcdef, bits(1.0), 1 << 63], [0x7ff8000000000123, N, 0x7ff0000000000001, N])
 merge(2, [x if i % 2 else N for i, x in enumerate(left)], [N if i % 2 else y for i, y in enumerate(right)])
 
-with open('crates/test_binaryop/stdin', 'wb') as f:
-    f.write(b''.join(cases))
-with open('crates/test_binaryop/stdout', 'w') as f:
-    f.write('\n'.join(lines) + '\n')
+FILES = {'test_binaryop/stdin': b''.join(cases), 'test_binaryop/stdout': '\n'.join(lines) + '\n'}

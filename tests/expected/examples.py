@@ -1,39 +1,26 @@
-#!/usr/bin/env python3
-"""Writes the files of crates/replay: the stored sample, and examples with what docs/01-scope.md says of them, each
-outcome written out here by hand. Run it in the repository."""
+"""crates/test_replay: the stored sample, and examples with what 01 says of them, each outcome written out here by hand."""
 import struct
 
-N = 0x7ff8000000000000
-ADD, AND, ATAN2, DIV, MUL, POW, OR, UNLESS = 0, 1, 2, 4, 7, 8, 17, 18
-ON, GROUP_LEFT, GROUP_RIGHT, KEEP_NAMES = 1, 1, 2, 1
+import wire
+from expected import read
+from wire import ADD, AND, ATAN2, DIV, GROUP_LEFT, GROUP_RIGHT, KEEP_NAMES, MUL, ON, OR, POW, SIZES, UNLESS, number, part, query
+from wire import MISSING as N
+
 ROOM = (65535, 8192)
 
 
-def field(content):
-    return bytes([len(content)]) + content
-
-
 def record(name, **tags):
-    return field(name) + bytes([len(tags)]) + b''.join(field(k.encode()) + field(v.encode()) for k, v in tags.items())
-
-
-def names(*labels):
-    return bytes([len(labels)]) + b''.join(map(field, labels))
-
-
-def query(op, matching=0, join=0, flags=0, matching_list=names(), join_list=names()):
-    return bytes([op, matching, join, flags]) + matching_list + join_list
+    return wire.record(name, [(key.encode(), value.encode()) for key, value in tags.items()])
 
 
 def reading(x):
     """The bits of a float; a whole number is bits already."""
-    return x if isinstance(x, int) else struct.unpack('<Q', struct.pack('<d', x))[0]
+    return x if isinstance(x, int) else wire.bits(x)
 
 
 def vector(points, *series):
     """A label part and its readings, of series given as record and row."""
-    array = b''.join(labels for labels, row in series)
-    return struct.pack('<HHH', len(series), points, len(array)) + array, [x for labels, row in series for x in row]
+    return wire.label_part(len(series), points, [labels for labels, _ in series]), [x for _, row in series for x in row]
 
 
 def refused(number, first=0, second=0):
@@ -42,7 +29,7 @@ def refused(number, first=0, second=0):
 
 def answer(points, *series):
     labels, readings = vector(points, *series)
-    return (0, 0, 0, len(series), points, len(labels) - 6), (labels[6:], readings)
+    return (0, 0, 0, len(series), points, len(labels) - SIZES), (labels[SIZES:], readings)
 
 
 BARE = record(b'')
@@ -69,7 +56,7 @@ def valued(lengths):
 
 
 def settled():
-    yield ('two forms and one waste rate under group_left', query(MUL, ON, GROUP_LEFT, 0, names(b'press')),
+    yield ('two forms and one waste rate under group_left', query(MUL, ON, GROUP_LEFT, 0, [b'press']),
            vector(2, (record(b'fed', form='1', press='A'), [100., 200.]),
                   (record(b'fed', form='2', press='A'), [300., N])),
            vector(2, (record(b'waste', press='A'), [0.5, 0.25])), ROOM,
@@ -96,7 +83,7 @@ def misreadings():
     seven = vector(1, (BARE, [7.]))
     yield 'and has no fallback', query(AND), vector(1, (A, [1.])), seven, ROOM, answer(1)
     yield 'unless has no fallback', query(UNLESS), vector(1, (A, [1.])), seven, ROOM, answer(1, (A, [1.]))
-    yield ('* does not copy the name', query(ADD, ON, GROUP_LEFT, KEEP_NAMES, names(), names(b'*')),
+    yield ('* does not copy the name', query(ADD, ON, GROUP_LEFT, KEEP_NAMES, [], [b'*']),
            vector(1, (record(b'm'), [1.])), vector(1, (record(b'n', b='y'), [2.])), ROOM,
            answer(1, (record(b'm', b='y'), [3.])))
     yield ('group_right divides the left by the right', query(DIV, ON, GROUP_RIGHT), vector(1, (BARE, [6.])),
@@ -140,7 +127,7 @@ def running():
     x, y = (record(b'', a='x'), [1.]), (record(b'', a='y'), [1.])
     yield '8 of an earlier key before 7', PLUS, vector(1, x, y, y), vector(1, x, x, y), ROOM, refused(8, 1, 0)
     # what a many-side series of 32 tags takes from z is a 33rd
-    group_left, group_right = (query(ADD, ON, join, 0, names(), names(b'*')) for join in (GROUP_LEFT, GROUP_RIGHT))
+    group_left, group_right = (query(ADD, ON, join, 0, [], [b'*']) for join in (GROUP_LEFT, GROUP_RIGHT))
     wide = vector(1, (tags(32), [1.]))
     z = (record(b'', z='1'), [1.])
     yield '7 before 9', group_right, vector(1, z, z), wide, (0, 0), refused(7, 0, 1)
@@ -151,7 +138,7 @@ def running():
     yield ('511 series and one', query(OR), vector(0, *[(BARE, [])] * 511), vector(0, (A, [])), ROOM,
            answer(0, *[(BARE, [])] * 511, (A, [])))
     # a record {a=...} takes 5 bytes and its value
-    join = query(ADD, ON, GROUP_LEFT, 0, names(), names(b'a'))
+    join = query(ADD, ON, GROUP_LEFT, 0, [], [b'a'])
     yield ('9: 65,536 label bytes, before 10', join, vector(1, *[(BARE, [1.])] * 16), valued([255] * 15 + [191]),
            (0, 0), refused(9))
     yield ('10: 65,535 label bytes', join, vector(1, *[(BARE, [1.])] * 15), valued([255] * 16 + [204]),
@@ -161,16 +148,8 @@ def running():
     yield 'an answer that just fits', query(DIV), FED, WASTE, (10, 3), QUOTIENT
 
 
-def number(n):
-    return struct.pack('<H', n)
-
-
-def part(content):
-    return number(len(content)) + content
-
-
 def rows(readings):
-    return part(b''.join(struct.pack('<Q', reading(x)) for x in readings))
+    return part(wire.readings([reading(x) for x in readings]))
 
 
 def case(asked, left, right, room, outcome):
@@ -181,14 +160,9 @@ def case(asked, left, right, room, outcome):
 
 
 examples = [*settled(), *misreadings(), *both_sides(), *query_faults(), *running()]
-with open('oracle/sample/cases.bin', 'rb') as f:
-    sample = f.read()
+sample = read('oracle/sample/cases.bin')
 count, = struct.unpack_from('<H', sample)
-with open('crates/replay/stdin', 'wb') as f:
-    f.write(sample)
-    for name, *called in examples:
-        f.write(part(name.encode()) + part(case(*called)))
-with open('crates/replay/stdout', 'w') as f:
-    f.write(f'{count} cases of the sample, {count} agree\n')
-    for name, *_ in examples:
-        f.write(f'{name}: agrees\n')
+FILES = {
+    'test_replay/stdin': sample + b''.join(part(name.encode()) + part(case(*called)) for name, *called in examples),
+    'test_replay/stdout': f'{count} cases of the sample, {count} agree\n' + ''.join(f'{name}: agrees\n' for name, *_ in examples),
+}

@@ -1,39 +1,18 @@
-#!/usr/bin/env python3
-"""Writes crates/key_cases/stdin and stdout: two sides of label records under a matching, and the key numbers that
-docs/01-scope.md says they have, worked out here apart from the program. The hash alone is this library's own; only cases
-are chosen by it. Run it in the repository."""
+"""crates/test_keys: two sides of label records under a matching, and the key numbers that 01 says they have, worked out here apart from
+the program. The hash alone is this library's own; only cases are chosen by it."""
 import random
-import struct
 
-ALL, ON, IGNORING = 0, 1, 2
+from wire import ALL, IGNORING, ON, label_list, label_part, part, record, tag_fields
+
 BUCKETS = 16384
 
 
-def field(content):
-    return bytes([len(content)]) + content
+def side_part(side):
+    return label_part(len(side), 0, [record(*series) for series in side])
 
 
-def encode_tags(tags):
-    return b''.join(field(k) + field(v) for k, v in tags)
-
-
-def record(series):
-    name, tags = series
-    return field(name) + bytes([len(tags)]) + encode_tags(tags)
-
-
-def part(side):
-    array = b''.join(record(s) for s in side)
-    return struct.pack('<HHH', len(side), 0, len(array)) + array
-
-
-def listed(names):
-    return bytes([len(names)]) + b''.join(field(n) for n in names)
-
-
-def key_of(matching, names, series):
-    """The name is in no key."""
-    tags = series[1]
+def key_of(matching, names, tags):
+    """The tags of the key; the name is in none."""
     if matching == ON:
         return [t for t in tags if t[0] in names]
     if matching == IGNORING:
@@ -43,14 +22,14 @@ def key_of(matching, names, series):
 
 def numbers(matching, names, left, right):
     """The first place, over left and then right, of each series' key."""
-    keys = [key_of(matching, names, s) for s in left + right]
+    keys = [key_of(matching, names, tags) for _, tags in left + right]
     places = [keys.index(k) for k in keys]
     return places[:len(left)], places[len(left):]
 
 
 def hash_of(tags):
     h = 0
-    for b in encode_tags(tags):
+    for b in tag_fields(tags):
         h = h % 2**39 * 16777619 + b
     return h
 
@@ -142,13 +121,16 @@ def buckets():
     yield ALL, [], [other, like, like], [like, other]
 
 
+def given(matching, listing, left, right):
+    return bytes([matching]) + part(label_list(listing)) + part(side_part(left)) + part(side_part(right))
+
+
+def shown(left, right):
+    return ''.join(f' {k}' for k in left) + ' |' + ''.join(f' {k}' for k in right) + '\n'
+
+
 cases = [*equal_keys(), *prefixes(), *empty_values(), *names(), *nothing_left(), *full_sides(), *buckets()]
-with open('crates/key_cases/stdin', 'wb') as f:
-    for matching, listing, left, right in cases:
-        f.write(bytes([matching]))
-        for content in listed(listing), part(left), part(right):
-            f.write(struct.pack('<H', len(content)) + content)
-with open('crates/key_cases/stdout', 'w') as f:
-    for case in cases:
-        left, right = numbers(*case)
-        f.write(''.join(f' {k}' for k in left) + ' |' + ''.join(f' {k}' for k in right) + '\n')
+FILES = {
+    'test_keys/stdin': b''.join(given(*case) for case in cases),
+    'test_keys/stdout': ''.join(shown(*numbers(*case)) for case in cases),
+}

@@ -1,7 +1,5 @@
-#!/usr/bin/env python3
-"""Writes crates/test_query/stdin and stdout: queries, and what docs/01-scope.md says of them, worked out here apart
-from the program. Run it in the repository."""
-import struct
+"""crates/test_query: queries, and what 01 says of them, worked out here apart from the program."""
+from wire import part, query
 
 COMPARISON = {5, 10, 11, 14, 15, 16}
 LOGICAL = {1, 3, 12, 13, 17, 18}
@@ -44,31 +42,22 @@ def taken(b):
     return ' '.join(['asked'] + [w if isinstance(w, str) else str(int(w)) for w in words])
 
 
-def names(*labels):
-    return bytes([len(labels)]) + b''.join(bytes([len(x)]) + x for x in labels)
-
-
 good = [
-    bytes([0, 0, 0, 0]) + names() + names(),
-    bytes([4, 1, 1, 1]) + names(b'press', b'shift') + names(b'form', b'__name__'),
-    bytes([10, 2, 2, 3]) + names(b'press') + names(b'*'),
-    bytes([18, 1, 0, 2]) + names(b'a', b'a') + names(),
+    query(0),
+    query(4, 1, 1, 1, [b'press', b'shift'], [b'form', b'__name__']),
+    query(10, 2, 2, 3, [b'press'], [b'*']),
+    query(18, 1, 0, 2, [b'a', b'a']),
 ]
-cases = [bytes([op, 0, 0, 0]) + names() + names() for op in range(21)]
+cases = [query(op) for op in range(21)]
 cases += [b'', bytes([255])] + [bytes([op]) for op in (0, 2, 8, 19)]
-cases += [bytes([op, 0, 0, flags]) + names() + names() for op in (5, 9, 12) for flags in range(5)]
-cases += [bytes([7, m, j, 0]) + ms + js for m in range(4) for j in range(5) for ms in (names(), names(b'a'))
-          for js in (names(), names(b'*'), names(b'*', b'b'))]
+cases += [query(op, flags=flags) for op in (5, 9, 12) for flags in range(5)]
+cases += [query(7, m, j, 0, ms, js) for m in range(4) for j in range(5) for ms in ([], [b'a']) for js in ([], [b'*'], [b'*', b'b'])]
 for g in good:  # every prefix, bytes left over, single damaged bytes
     cases += [g[:k] for k in range(len(g) + 1)] + [g + b'\0', g + b'\1\1a']
     cases += [g[:k] + bytes([(g[k] + d) % 256]) + g[k + 1:] for k in range(len(g)) for d in (1, 0x80, 0xff)]
 many = [b'%02d' % i for i in range(33)]
-on = bytes([0, 1, 1, 0])
-cases += [on + names(*many[:32]) + names(*many[:32]), on + names(*many) + names(), on + names() + names(*many),
-          on + names(b'x' * 255) + names(b'y' * 255), on + names(b'x' * 255)[:-1],
-          on + names(b'') + names(), on + names() + names(b'')]
+long = query(0, 1, 1, 0, [b'x' * 255], [b'y' * 255])
+cases += [query(0, 1, 1, 0, *lists) for lists in ((many[:32], many[:32]), (many, []), ([], many))]
+cases += [long, long[:260], query(0, 1, 1, 0, [b''], []), query(0, 1, 1, 0, [], [b''])]
 
-with open('crates/test_query/stdin', 'wb') as f:
-    f.write(b''.join(struct.pack('<H', len(q)) + q for q in cases))
-with open('crates/test_query/stdout', 'w') as f:
-    f.write(''.join(taken(q) + '\n' for q in cases))
+FILES = {'test_query/stdin': b''.join(map(part, cases)), 'test_query/stdout': ''.join(taken(q) + '\n' for q in cases)}

@@ -1,31 +1,15 @@
-#!/usr/bin/env python3
-"""Writes crates/set_tags_cases/stdin and stdout: many-side records edited from a source, and what docs/01-scope.md says
-they become, worked out here apart from the program. The hash alone is this library's own. Run it in the repository."""
-import struct
+"""crates/test_set_tags: many-side records edited from a source, and what 01 says they become, worked out here apart from the program.
+The hash alone is this library's own."""
+from expected.keys import hash_of
+from wire import METRIC_GROUP, field, label_list, part, record
 
-METRIC_GROUP = b'__name__'
 MAX_TAGS = 32
 
 
-def field(content):
-    return bytes([len(content)]) + content
-
-
-def encode_tags(tags):
-    return b''.join(field(k) + field(v) for k, v in sorted(tags.items()))
-
-
-def record(series):
+def encoded(series):
+    """The record of a name and tags, in order of their keys."""
     name, tags = series
-    return field(name) + bytes([len(tags)]) + encode_tags(tags)
-
-
-def listed(names):
-    return bytes([len(names)]) + b''.join(field(n) for n in names)
-
-
-def part(content):
-    return struct.pack('<H', len(content)) + content
+    return record(name, sorted(tags.items()))
 
 
 def set_tags(join, skip, many, source):
@@ -46,21 +30,14 @@ def set_tags(join, skip, many, source):
     return name, tags
 
 
-def hash_of(tags):
-    h = 0
-    for b in encode_tags(tags):
-        h = h % 2**39 * 16777619 + b
-    return h
-
-
 def answer(reset, join, skip, many, source, other):
     """The record stands in a buffer of 187s behind two others, and is shown with the byte behind it."""
     base = (b'' if reset else many[0]), many[1]
     edited = set_tags(join, skip, base, source)
     alike = edited[1] == set_tags(join, skip, base, other)[1]
-    size = f'{len(edited[1])} {len(record(edited))}'
-    shown = (b'\xbb\xbb' + record(edited) + b'\xbb').hex() if len(edited[1]) <= MAX_TAGS else ''
-    return f'{"yes" if alike else "no"} {hash_of(edited[1]):016x} {size} {shown}'
+    size = f'{len(edited[1])} {len(encoded(edited))}'
+    shown = (b'\xbb\xbb' + encoded(edited) + b'\xbb').hex() if len(edited[1]) <= MAX_TAGS else ''
+    return f'{"yes" if alike else "no"} {hash_of(sorted(edited[1].items())):016x} {size} {shown}\n'
 
 
 def series(name='', **tags):
@@ -183,21 +160,21 @@ def limits():
 
 def refused():
     """Three records of which one is cut, is missing, or has keys out of order or the key `__name__`."""
-    good = record(MANY)
+    good = encoded(MANY)
     for bad in b'', good[:-1], b'\1m\2\1b\1x\1a\1y', b'\1m\1' + field(METRIC_GROUP) + b'\1x', b'\0\x21':
         yield good + good + bad
         yield good + bad
         yield bad + bad
 
 
+def given(reset, join, skip, records):
+    return part(bytes([reset]) + part(label_list(join)) + part(label_list(skip)) + records)
+
+
 cases = [*listings(), *places(), *stars(), *empty_values(), *prefixes(), *alike(), *limits()]
-with open('crates/set_tags_cases/stdin', 'wb') as f:
-    for reset, join, skip, *records in cases:
-        f.write(part(bytes([reset]) + part(listed(join)) + part(listed(skip)) + b''.join(map(record, records))))
-    for records in refused():
-        f.write(part(b'\0' + part(listed([])) + part(listed([])) + records))
-with open('crates/set_tags_cases/stdout', 'w') as f:
-    for case in cases:
-        f.write(answer(*case) + '\n')
-    for _ in refused():
-        f.write('refused\n')
+FILES = {
+    'test_set_tags/stdin': b''.join(
+        [given(reset, join, skip, b''.join(map(encoded, series))) for reset, join, skip, *series in cases]
+        + [given(False, [], [], records) for records in refused()]),
+    'test_set_tags/stdout': ''.join([answer(*case) for case in cases] + ['refused\n' for _ in refused()]),
+}

@@ -1,47 +1,14 @@
-#!/usr/bin/env python3
-"""Writes crates/test_vecop/stdin and stdout: inputs of `vecop`, each after its length (4 bytes), and what docs/01-scope.md says that it
-prints for each, worked out by hand here. Run it in the repository."""
+"""crates/vecop and crates/test_vecop: inputs of `vecop` (in the second each after its length, 4 bytes), and what 01 says that it prints for
+each, worked out by hand here."""
 import struct
 
-ADD, AND, DIV, OR, UNLESS = 0, 1, 4, 17, 18
-N = 0x7ff8000000000000
-
-
-def bits(x):
-    return N if x is None else struct.unpack('<Q', struct.pack('<d', x))[0]
-
-
-def field(content):
-    return bytes([len(content)]) + content
-
-
-def record(name, tags):
-    return field(name) + bytes([len(tags)]) + b''.join(field(k) + field(v) for k, v in tags)
-
-
-def labels(count, points, records):
-    array = b''.join(records)
-    return struct.pack('<HHH', count, points, len(array)) + array
-
-
-def words(rows):
-    return b''.join(struct.pack('<Q', bits(x)) for row in rows for x in row)
+import wire
+from wire import ADD, AND, DIV, OR, UNLESS, frame, label_part, query, record
 
 
 def vector(points, *series):
-    return labels(len(series), points, [record(n, t) for n, t, _ in series]) + words([row for _, _, row in series])
-
-
-def listed(*names):
-    return bytes([len(names)]) + b''.join(field(n) for n in names)
-
-
-def query(operator, matching=0, join=0, flags=0, match_list=(), join_list=()):
-    return bytes([operator, matching, join, flags]) + listed(*match_list) + listed(*join_list)
-
-
-def frame(*parts):
-    return b''.join(struct.pack('<I', len(part)) + part for part in parts)
+    """A vector of series, each a name, tags and a row of numbers, None for missing."""
+    return wire.vector(points, [(record(name, tags), [wire.bits(x) for x in row]) for name, tags, row in series])
 
 
 CASES = []
@@ -67,7 +34,7 @@ GAP = '7ff8000000000000'
 NOTHING = vector(1)
 SINGLE = vector(1, (b'', [], [1]))
 
-# 01's example
+# 01's example, which is the input of crates/vecop too
 case(frame(query(DIV), FED, WASTE), 'answer 1 3\n{press="A"} 4014000000000000 7ff8000000000000 4000000000000000\n')
 
 # several series: left places, then right; set rules edit no labels. Names and tags with every byte that is escaped, and those beside the
@@ -95,7 +62,7 @@ case(frame(query(OR), vector(0, (b'x', [], [])), vector(0)), 'answer 1 0\nx{}\n'
 
 # a reading passed through keeps its bits, N too
 case(
-    frame(query(OR), labels(1, 2, [record(b'x', [])]) + struct.pack('<QQ', 0xfff0123456789abc, 0x8000000000000000), vector(2)),
+    frame(query(OR), wire.vector(2, [(record(b'x'), [0xfff0123456789abc, 0x8000000000000000])]), vector(2)),
     'answer 1 2\nx{} fff0123456789abc 8000000000000000\n',
 )
 
@@ -107,19 +74,19 @@ refused(frame(query(ADD) + b'\0', b'', b''), 2)
 
 # number 3: sizes cut, 513 series, 1,025 points, a label array shorter than stated, a record cut, 33 tags, label bytes left over
 refused(frame(query(ADD), b'', b''), 3)
-refused(frame(query(ADD), SINGLE[:5], b''), 3)
-refused(frame(query(ADD), SINGLE, SINGLE[:5]), 3, 1)
-refused(frame(query(ADD), labels(513, 0, [record(b'', [])] * 513), NOTHING), 3)
-refused(frame(query(ADD), NOTHING, labels(0, 1025, [])), 3, 1)
-refused(frame(query(ADD), struct.pack('<HHH', 1, 0, 3) + record(b'', []), NOTHING), 3)
-refused(frame(query(ADD), NOTHING, labels(2, 1, [record(b'', []), b'\1'])), 3, 1, 1)
-refused(frame(query(ADD), labels(1, 0, [record(b'', [(b'k%02d' % i, b'') for i in range(33)])]), NOTHING), 3)
-refused(frame(query(ADD), labels(2, 0, [record(b'', [])] * 3), NOTHING), 3, 0, 2)
+refused(frame(query(ADD), SINGLE[:wire.SIZES - 1], b''), 3)
+refused(frame(query(ADD), SINGLE, SINGLE[:wire.SIZES - 1]), 3, 1)
+refused(frame(query(ADD), label_part(513, 0, [record(b'')] * 513), NOTHING), 3)
+refused(frame(query(ADD), NOTHING, label_part(0, 1025, [])), 3, 1)
+refused(frame(query(ADD), wire.sizes(1, 0, 3) + record(b''), NOTHING), 3)
+refused(frame(query(ADD), NOTHING, label_part(2, 1, [record(b''), b'\1'])), 3, 1, 1)
+refused(frame(query(ADD), label_part(1, 0, [record(b'', [(b'k%02d' % i, b'') for i in range(33)])]), NOTHING), 3)
+refused(frame(query(ADD), label_part(2, 0, [record(b'')] * 3), NOTHING), 3, 0, 2)
 
 # number 4, and 3 before it in another record
-refused(frame(query(ADD), NOTHING, labels(1, 0, [record(b'', [(b'', b'v')])])), 4, 1)
-refused(frame(query(ADD), labels(2, 0, [record(b'', []), record(b'', [(b'b', b''), (b'a', b'')])]), b''), 4, 0, 1)
-refused(frame(query(ADD), labels(1, 0, [record(b'', [(b'__name__', b'')])]), b''), 4)
+refused(frame(query(ADD), NOTHING, label_part(1, 0, [record(b'', [(b'', b'v')])])), 4, 1)
+refused(frame(query(ADD), label_part(2, 0, [record(b''), record(b'', [(b'b', b''), (b'a', b'')])]), b''), 4, 0, 1)
+refused(frame(query(ADD), label_part(1, 0, [record(b'', [(b'__name__', b'')])]), b''), 4)
 
 # number 5: bytes not 8 times n times p, by whole readings and by single bytes, where that is 0 too; after 3 and 4 of the side, before
 # the right side's
@@ -132,7 +99,7 @@ refused(frame(query(ADD), SINGLE, SINGLE[:-3]), 5, 1)
 refused(frame(query(ADD), NOTHING + b'\0\0\0', NOTHING), 5)
 refused(frame(query(ADD), NOTHING + bytes(8), NOTHING), 5)
 refused(frame(query(ADD), NOTHING, vector(0, (b'x', [], [])) + b'\0'), 5, 1)
-refused(frame(query(ADD), labels(1, 1, [record(b'', [(b'', b'v')])]) + b'\0', b''), 4)
+refused(frame(query(ADD), label_part(1, 1, [record(b'', [(b'', b'v')])]) + b'\0', b''), 4)
 refused(frame(query(ADD), SINGLE + b'\0', b''), 5)
 
 # number 6, empty sides included
@@ -173,7 +140,7 @@ unreadable(frame(query(ADD), SINGLE, SINGLE)[:-1])
 unreadable(frame(query(ADD), SINGLE) + b'\0\0\0')
 unreadable(frame(query(ADD), SINGLE) + b'\1\0\0\0')
 unreadable(frame(query(ADD), SINGLE) + b'\xff\xff\xff\xff')
-unreadable(struct.pack('<I', 7) + query(ADD))
+unreadable(struct.pack('<I', len(query(ADD)) + 1) + query(ADD))
 unreadable(frame(query(ADD), SINGLE, SINGLE) + b'\0')
 
 # `unreadable` before any refusal
@@ -200,9 +167,9 @@ GIVEN, NAME = largest(65536)
 case(GIVEN, 'answer 1 1000\n' + NAME.decode() + '{k="b"}' + f' {ONE}' * 1000 + '\n')
 unreadable(largest(65537)[0])
 
-with open('crates/test_vecop/stdin', 'wb') as out:
-    for given, _ in CASES:
-        out.write(struct.pack('<I', len(given)) + given)
-with open('crates/test_vecop/stdout', 'wb') as out:
-    for _, text in CASES:
-        out.write(text)
+FILES = {
+    'vecop/stdin': CASES[0][0],
+    'vecop/stdout': CASES[0][1],
+    'test_vecop/stdin': frame(*(given for given, _ in CASES)),
+    'test_vecop/stdout': b''.join(text for _, text in CASES),
+}

@@ -1,27 +1,8 @@
-#!/usr/bin/env python3
-"""Writes crates/vector_cases/stdin and stdout: vectors, and what docs/01-scope.md says of taking them, worked out here
-apart from the program. Run it in the repository."""
+"""crates/test_vectors: vectors, and what 01 says of taking them, worked out here apart from the program."""
 import random
 import struct
 
-METRIC_GROUP = b'__name__'
-
-
-def field(content):
-    return bytes([len(content)]) + content
-
-
-def record(name, tags):
-    return field(name) + bytes([len(tags)]) + b''.join(field(k) + field(v) for k, v in tags)
-
-
-def part(series, points, size, array):
-    return struct.pack('<HHH', series, points, size) + array
-
-
-def whole(series, points, records):
-    array = b''.join(records)
-    return part(series, points, len(array), array)
+from wire import METRIC_GROUP, SIZES, label_part, number, part, record, sizes
 
 
 def field_at(s, i):
@@ -51,10 +32,10 @@ def record_at(s, i):
 
 def taken(labels, readings):
     """What taking comes to, and the positions noted by then."""
-    if len(labels) < 6:
+    if len(labels) < SIZES:
         return '3 0', []
-    series, points, size = struct.unpack('<HHH', labels[:6])
-    array = labels[6:]
+    series, points, size = struct.unpack_from('<HHH', labels)
+    array = labels[SIZES:]
     if series > 512 or points > 1024 or len(array) != size:
         return '3 0', []
     at, i = [], 0
@@ -71,7 +52,7 @@ def taken(labels, readings):
     return f'vector {series} {points}', at
 
 
-BARE = record(b'', [])
+BARE = record(b'')
 FED = record(b'fed', [(b'press', b'A')])
 WASTE = record(b'waste', [(b'form', b''), (b'press', b'B'), (b'pressed', b'x')])
 TAGS_32 = record(b'n', [(b'k%02d' % i, b'v') for i in range(32)])
@@ -85,74 +66,75 @@ KEYS_UP = record(b'm', [(b'a', b''), (b'aa', b''), (b'ab', b'')])
 PREFIX_LAST = record(b'm', [(b'aa', b''), (b'a', b'')])
 
 
-def sizes():
-    yield whole(0, 0, []), 0
-    yield whole(0, 1024, []), 0
-    yield whole(1, 3, [FED]), 3
-    yield whole(2, 2, [FED, WASTE]), 4
-    yield whole(3, 1, [FED, WASTE, BARE]), 3
-    yield whole(1, 0, [TAGS_32]), 0
-    yield whole(1, 1, [TAGS_33]), 1
-    yield whole(2, 1, [LONG, FED]), 2
-    yield whole(512, 2, [BARE] * 512), 1024
-    yield whole(513, 1, [BARE] * 513), 513
-    yield whole(512, 8, [BARE] * 512), 4096
-    yield whole(1, 1024, [FED]), 1024
-    yield whole(1, 1025, [FED]), 1025
-    yield whole(65535, 0, []), 0
-    yield whole(0, 65535, []), 0
+def limits():
+    yield label_part(0, 0, []), 0
+    yield label_part(0, 1024, []), 0
+    yield label_part(1, 3, [FED]), 3
+    yield label_part(2, 2, [FED, WASTE]), 4
+    yield label_part(3, 1, [FED, WASTE, BARE]), 3
+    yield label_part(1, 0, [TAGS_32]), 0
+    yield label_part(1, 1, [TAGS_33]), 1
+    yield label_part(2, 1, [LONG, FED]), 2
+    yield label_part(512, 2, [BARE] * 512), 1024
+    yield label_part(513, 1, [BARE] * 513), 513
+    yield label_part(512, 8, [BARE] * 512), 4096
+    yield label_part(1, 1024, [FED]), 1024
+    yield label_part(1, 1025, [FED]), 1025
+    yield label_part(65535, 0, []), 0
+    yield label_part(0, 65535, []), 0
 
 
 def lengths():
-    good = whole(2, 2, [FED, WASTE])
-    array = good[6:]
+    good = label_part(2, 2, [FED, WASTE])
+    array = good[SIZES:]
     for i in range(len(good)):  # the array is shorter than stated
         yield good[:i], 4
     for i in range(len(array) + 1):  # every prefix, its length stated
-        yield part(2, 2, i, array[:i]), 4
+        yield label_part(2, 2, [array[:i]]), 4
     yield good + b'\0', 4
-    yield part(2, 2, len(array) + 1, array), 4
-    yield part(2, 2, len(array) + 1, array + b'\0'), 4
-    yield part(2, 2, len(array) + 4, array + FED[:4]), 4
+    yield sizes(2, 2, len(array) + 1) + array, 4
+    yield label_part(2, 2, [array, b'\0']), 4
+    yield label_part(2, 2, [array, FED[:4]]), 4
     for readings in (3, 5, 0):
         yield good, readings
-    yield whole(0, 3, []), 1
+    yield label_part(0, 3, []), 1
 
 
 def keys():
     for second in (EMPTY_KEY, NAME_AS_KEY, KEY_TWICE, KEYS_DOWN, KEYS_UP, PREFIX_LAST):
-        yield whole(2, 1, [FED, second]), 2
+        yield label_part(2, 1, [FED, second]), 2
 
 
 def several_faults():
-    yield whole(2, 1, [EMPTY_KEY, EMPTY_KEY]), 2
-    yield whole(2, 1, [EMPTY_KEY]), 2
-    yield whole(2, 1, [FED, EMPTY_KEY[:-1]]), 2
-    yield whole(2, 1, [EMPTY_KEY, FED[:3]]), 9
-    yield whole(1, 1, [FED, FED]), 9
-    yield whole(1, 1, [EMPTY_KEY, FED]), 9
-    yield whole(513, 1025, [EMPTY_KEY]), 0
-    yield whole(2, 1, [FED]), 9
-    yield part(1, 1, 0, b''), 1
-    yield part(1, 2000, len(EMPTY_KEY), EMPTY_KEY), 7
-    yield whole(3, 1, [FED, TAGS_33, EMPTY_KEY]), 3
-    yield whole(3, 1, [FED, EMPTY_KEY, TAGS_33]), 3
+    yield label_part(2, 1, [EMPTY_KEY, EMPTY_KEY]), 2
+    yield label_part(2, 1, [EMPTY_KEY]), 2
+    yield label_part(2, 1, [FED, EMPTY_KEY[:-1]]), 2
+    yield label_part(2, 1, [EMPTY_KEY, FED[:3]]), 9
+    yield label_part(1, 1, [FED, FED]), 9
+    yield label_part(1, 1, [EMPTY_KEY, FED]), 9
+    yield label_part(513, 1025, [EMPTY_KEY]), 0
+    yield label_part(2, 1, [FED]), 9
+    yield label_part(1, 1, []), 1
+    yield label_part(1, 2000, [EMPTY_KEY]), 7
+    yield label_part(3, 1, [FED, TAGS_33, EMPTY_KEY]), 3
+    yield label_part(3, 1, [FED, EMPTY_KEY, TAGS_33]), 3
 
 
 def damaged_bytes():
     rng = random.Random(7)
-    good = whole(3, 2, [FED, WASTE, KEYS_UP])
+    good = label_part(3, 2, [FED, WASTE, KEYS_UP])
     for _ in range(120):
         x = bytearray(good)
         x[rng.randrange(len(x))] = rng.choice([0, 1, 2, 3, 32, 33, 97, 255])
         yield bytes(x), rng.choice([6, 6, 6, 5, 7])
 
 
-cases = [*sizes(), *lengths(), *keys(), *several_faults(), *damaged_bytes()]
-with open('crates/vector_cases/stdin', 'wb') as f:
-    for labels, readings in cases:
-        f.write(struct.pack('<H', len(labels)) + labels + struct.pack('<H', readings))
-with open('crates/vector_cases/stdout', 'w') as f:
-    for labels, readings in cases:
-        outcome, at = taken(labels, readings)
-        f.write(outcome + ' at' + ''.join(f' {i}' for i in at) + '\n')
+def shown(outcome, at):
+    return outcome + ' at' + ''.join(f' {i}' for i in at) + '\n'
+
+
+cases = [*limits(), *lengths(), *keys(), *several_faults(), *damaged_bytes()]
+FILES = {
+    'test_vectors/stdin': b''.join(part(labels) + number(readings) for labels, readings in cases),
+    'test_vectors/stdout': ''.join(shown(*taken(*case)) for case in cases),
+}

@@ -1,9 +1,10 @@
 -- What a plan comes to, outcome by outcome: the first clash, then the room, then the answer. Assumes nothing.
-use Prim.Native.Nat.{ℕ, _+_, _*_, _≤_, _<_}
-use mathlib.Core.Path.{_≡_, refl, sym, ap, _∙_}
+use Prim.Native.Nat.{ℕ, _*_, _≤_, _<_}
+use mathlib.Core.Path.{_≡_, refl}
 use mathlib.Core.Bool.{Bool, true, false, _||_, cond}
 use mathlib.Core.Option.{Option, none, some}
-use mathlib.Core.List.{List, [], _∷_, _++_, map}
+use mathlib.Core.List.{List, [], _∷_, map}
+use native.Mathlib.Omega.{arith}
 use lib.Dec.{ltb}
 use lib.ListN.{length, length-map}
 use borrow.Author.Tests.{lt-ltb, le-ltb}
@@ -22,7 +23,7 @@ use Rattle.answers.specs.declared.Tally.{Tally}
 use Rattle.answers.specs.declared.Room.{Room}
 use Rattle.answers.specs.declared.Room.the-variants as Room
 use Rattle.answers.specs.Outcomes.{Ran, startingWith}
-use Rattle.answers.specs.Tallies.{recordsOf, someWide, TallyOf, roomOf}
+use Rattle.answers.specs.Tallies.{recordsOf, someWide, TallyOf, roomNumber, roomRefusal}
 
 -- rows as series
 
@@ -54,24 +55,35 @@ outcomeBy answer Room.Fits = answer
 outcomeBy answer Room.TooLarge = refused 9 0 0
 outcomeBy answer Room.TooLong = refused 10 0 0
 
-by-tests : (answer : Call.Outcome) (large long : Bool) → cond large (refused 9 0 0) (cond long (refused 10 0 0) answer) ≡ outcomeBy answer (cond large Room.TooLarge (cond long Room.TooLong Room.Fits))
-by-tests answer true long = refl
-by-tests answer false true = refl
-by-tests answer false false = refl
+by-tests : (answer : Call.Outcome) (large long : Bool) (room : Room) → roomNumber room ≡ cond large 9 (cond long 10 0)
+    → cond large (refused 9 0 0) (cond long (refused 10 0 0) answer) ≡ outcomeBy answer room
+by-tests answer true long Room.TooLarge h = refl
+by-tests answer true long Room.TooLong h = absurd (omega arith)
+by-tests answer true long Room.Fits h = absurd (omega arith)
+by-tests answer false true Room.TooLarge h = absurd (omega arith)
+by-tests answer false true Room.TooLong h = refl
+by-tests answer false true Room.Fits h = absurd (omega arith)
+by-tests answer false false Room.TooLarge h = absurd (omega arith)
+by-tests answer false false Room.TooLong h = absurd (omega arith)
+by-tests answer false false Room.Fits h = refl
 
 -- a plan
 
 module _ (shape : Shape) (labels₀ out₀ : List ℕ) where
   -- the first clash is the outcome
   module _ (clash : Option Duplicate) (ss : List Series) (k i : ℕ) where
-    pub ran-left-twice : clash ≡ some (record { kept = record { side = left; number = k }; failed = record { side = left; number = i } }) → Ran (conclude (length labels₀) (length out₀) shape clash ss) labels₀ out₀ labels₀ out₀ (Out.LeftTwice k i)
+    pub ran-left-twice : clash ≡ some (record { kept = record { side = left; number = k }; failed = record { side = left; number = i } })
+        → Ran (conclude (length labels₀) (length out₀) shape clash ss) labels₀ out₀ labels₀ out₀ (Out.LeftTwice k i)
     ran-left-twice h = rw h (record { outcome = refl; labelPart = refl; readingPart = refl })
 
-    pub ran-right-twice : clash ≡ some (record { kept = record { side = right; number = k }; failed = record { side = right; number = i } }) → Ran (conclude (length labels₀) (length out₀) shape clash ss) labels₀ out₀ labels₀ out₀ (Out.RightTwice k i)
+    pub ran-right-twice : clash ≡ some (record { kept = record { side = right; number = k }; failed = record { side = right; number = i } })
+        → Ran (conclude (length labels₀) (length out₀) shape clash ss) labels₀ out₀ labels₀ out₀ (Out.RightTwice k i)
     ran-right-twice h = rw h (record { outcome = refl; labelPart = refl; readingPart = refl })
 
   -- without a clash, the rows as they fit
-  pub ran-without-clash : (clash : Option Duplicate) (ss : List Series) (labels out : List ℕ) (r : Outcome) → clash ≡ none → Ran (fit (length labels₀) (length out₀) shape ss) labels₀ out₀ labels out r → Ran (conclude (length labels₀) (length out₀) shape clash ss) labels₀ out₀ labels out r
+  pub ran-without-clash : (clash : Option Duplicate) (ss : List Series) (labels out : List ℕ) (r : Outcome) → clash ≡ none
+      → Ran (fit (length labels₀) (length out₀) shape ss) labels₀ out₀ labels out r
+      → Ran (conclude (length labels₀) (length out₀) shape clash ss) labels₀ out₀ labels out r
   ran-without-clash clash ss labels out r h k = rw h k
 
   pub ran-too-many : (ss : List Series) → maxSeries < length ss → Ran (fit (length labels₀) (length out₀) shape ss) labels₀ out₀ labels₀ out₀ Out.TooLarge
@@ -79,20 +91,40 @@ module _ (shape : Shape) (labels₀ out₀ : List ℕ) where
   ran-too-many ss h = rw (lt-ltb maxSeries (length ss) h) (record { outcome = refl; labelPart = refl; readingPart = refl })
 
   -- at most 512 rows, whose series S gives, with their tally and the room for them
-  module _ (S : ℕ → Series) (rows : List ℕ) (few : length rows ≤ maxSeries) (t : Tally) (tally : TallyOf (λ x. S x .labels) rows t) (room : Room) (asked : room ≡ roomOf (length rows) (shape .points) t (length labels₀) (length out₀)) where
-    fits-as : fit (length labels₀) (length out₀) shape (map S rows) ≡ outcomeBy (answered (length rows) (shape .points) (recordsOf (labels S) rows) (gather (row S) rows)) room
+  module _ (S : ℕ → Series) (rows : List ℕ) (few : length rows ≤ maxSeries) (t : Tally) (tally : TallyOf (λ x. S x .labels) rows t)
+      (room : Room) (asked : roomNumber room ≡ roomRefusal (length rows) (shape .points) t (length labels₀) (length out₀)) where
+    abbrev answer : Call.Outcome
+    answer = answered (length rows) (shape .points) (recordsOf (labels S) rows) (gather (row S) rows)
+
+    fits-as : fit (length labels₀) (length out₀) shape (map S rows) ≡ outcomeBy answer room
     unfolding fit
     fits-as =
-        rw (length-map rows S, le-ltb maxSeries (length rows) few, tags-of S rows, bytes-of S rows, readings-of S rows, ← tally .bytes, ← tally .wide)
-        (by-tests (answered (length rows) (shape .points) (recordsOf (labels S) rows) (gather (row S) rows)) (t .wide || ltb maxLabelBytes (t .bytes)) (ltb (length labels₀) (t .bytes) || ltb (length out₀) (length rows * shape .points)))
-        ∙ ap (outcomeBy (answered (length rows) (shape .points) (recordsOf (labels S) rows) (gather (row S) rows))) (sym asked)
+        rw (
+          length-map rows S,
+          le-ltb maxSeries (length rows) few,
+          tags-of S rows,
+          bytes-of S rows,
+          readings-of S rows,
+          ← tally .bytes,
+          ← tally .wide,
+        )
+        (by-tests answer
+        (t .«too_many_tags» || ltb maxLabelBytes (t .bytes))
+        (ltb (length labels₀) (t .bytes) || ltb (length out₀) (length rows * shape .points))
+        room asked)
 
-    pub ran-too-large : room ≡ Room.TooLarge → Ran (fit (length labels₀) (length out₀) shape (map S rows)) labels₀ out₀ labels₀ out₀ Out.TooLarge
+    pub ran-too-large : room ≡ Room.TooLarge
+        → Ran (fit (length labels₀) (length out₀) shape (map S rows)) labels₀ out₀ labels₀ out₀ Out.TooLarge
     ran-too-large h = rw (fits-as, h) (record { outcome = refl; labelPart = refl; readingPart = refl })
 
-    pub ran-too-long : room ≡ Room.TooLong → Ran (fit (length labels₀) (length out₀) shape (map S rows)) labels₀ out₀ labels₀ out₀ Out.TooLong
+    pub ran-too-long : room ≡ Room.TooLong
+        → Ran (fit (length labels₀) (length out₀) shape (map S rows)) labels₀ out₀ labels₀ out₀ Out.TooLong
     ran-too-long h = rw (fits-as, h) (record { outcome = refl; labelPart = refl; readingPart = refl })
 
-    pub ran-answer : room ≡ Room.Fits → (bytes : ℕ) → bytes ≡ length (recordsOf (λ x. S x .labels) rows) → (labels out : List ℕ) → labels ≡ startingWith (recordsOf (λ x. S x .labels) rows) labels₀ → out ≡ startingWith (gather (λ x. S x .row) rows) out₀ → Ran (fit (length labels₀) (length out₀) shape (map S rows)) labels₀ out₀ labels out (Out.Answer (length rows) (shape .points) bytes)
+    pub ran-answer : room ≡ Room.Fits → (bytes : ℕ) → bytes ≡ length (recordsOf (λ x. S x .labels) rows)
+        → (labels out : List ℕ) → labels ≡ startingWith (recordsOf (λ x. S x .labels) rows) labels₀
+        → out ≡ startingWith (gather (λ x. S x .row) rows) out₀
+        → Ran (fit (length labels₀) (length out₀) shape (map S rows)) labels₀ out₀ labels out
+        (Out.Answer (length rows) (shape .points) bytes)
     ran-answer h bytes k labels out a b =
         rw (fits-as, h) (record { outcome = rw k; labelPart = a; readingPart = b })

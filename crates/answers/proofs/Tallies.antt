@@ -2,7 +2,7 @@
 use Prim.Native.Nat.{ℕ, suc, _+_, _*_, _≤_, _<_}
 use mathlib.Core.Path.{_≡_, refl, sym, ap, _∙_}
 use mathlib.Core.Bool.{Bool, true, false, _||_, cond}
-use mathlib.Core.List.{List, [], _∷_, _++_}
+use mathlib.Core.List.{List}
 use native.Mathlib.Nat.{mul-le-mul}
 use native.Mathlib.Numerals.{add-one}
 use native.Mathlib.Omega.{arith}
@@ -19,15 +19,16 @@ use Rattle.kept_labels.specs.declared.Size.{Size}
 use Rattle.answers.specs.declared.Tally.{Tally}
 use Rattle.answers.specs.declared.Room.{Room}
 use Rattle.answers.specs.declared.Room.the-variants as Room
-use Rattle.answers.specs.Tallies.{mostOfRecord, mostBytes, SizedRecord, noTally, withSize, recordsOf, someWide, TallyOf, roomOf}
+use Rattle.answers.specs.Tallies.{mostOfRecord, mostBytes, SizedRecord, noTally, withSize}
+use Rattle.answers.specs.Tallies.{recordsOf, someWide, TallyOf, roomNumber, roomRefusal}
 
 -- `tallied`
 
 module _ (t : Tally) (z : Size) where
-  pub tallied-wide : t .wide ≡ true → (record { bytes = t .bytes + z .bytes; wide = true }) ≡ withSize t z
+  pub tallied-wide : t .«too_many_tags» ≡ true → (record { bytes = t .bytes + z .bytes; «too_many_tags» = true }) ≡ withSize t z
   tallied-wide h = rw h
 
-  pub tallied-more : t .wide ≡ false → (record { bytes = t .bytes + z .bytes; wide = ltb maxTags (z .tags) }) ≡ withSize t z
+  pub tallied-more : t .«too_many_tags» ≡ false → (record { bytes = t .bytes + z .bytes; «too_many_tags» = ltb maxTags (z .tags) }) ≡ withSize t z
   tallied-more h = rw h
 
 -- `room_for`
@@ -36,48 +37,66 @@ module _ (n p : ℕ) (t : Tally) (labels readings : ℕ) where
   pub room-product : n ≤ maxSeries → p ≤ maxPoints → Fits w64 (n * p)
   room-product h k = let most : n * p ≤ 512 * 1024 = mul-le-mul h k in omega arith
 
-  pub room-wide : t .wide ≡ true → Room.TooLarge ≡ roomOf n p t labels readings
+  pub room-wide : t .«too_many_tags» ≡ true → roomNumber Room.TooLarge ≡ roomRefusal n p t labels readings
   room-wide h = rw h
 
-  module _ (h : t .wide ≡ false) where
-    pub room-large : maxLabelBytes < t .bytes → Room.TooLarge ≡ roomOf n p t labels readings
+  module _ (h : t .«too_many_tags» ≡ false) where
+    pub room-large : maxLabelBytes < t .bytes → roomNumber Room.TooLarge ≡ roomRefusal n p t labels readings
     room-large k = rw (h, lt-ltb maxLabelBytes (t .bytes) k)
 
     module _ (k : t .bytes ≤ maxLabelBytes) where
-      pub room-labels-long : labels < t .bytes → Room.TooLong ≡ roomOf n p t labels readings
+      pub room-labels-long : labels < t .bytes → roomNumber Room.TooLong ≡ roomRefusal n p t labels readings
       room-labels-long a = rw (h, le-ltb maxLabelBytes (t .bytes) k, lt-ltb labels (t .bytes) a)
 
       module _ (a : t .bytes ≤ labels) where
-        pub room-readings-long : readings < n * p → Room.TooLong ≡ roomOf n p t labels readings
+        pub room-readings-long : readings < n * p → roomNumber Room.TooLong ≡ roomRefusal n p t labels readings
         room-readings-long b = rw (h, le-ltb maxLabelBytes (t .bytes) k, le-ltb labels (t .bytes) a, lt-ltb readings (n * p) b)
 
-        pub room-fits : n * p ≤ readings → Room.Fits ≡ roomOf n p t labels readings
+        pub room-fits : n * p ≤ readings → roomNumber Room.Fits ≡ roomRefusal n p t labels readings
         room-fits b = rw (h, le-ltb maxLabelBytes (t .bytes) k, le-ltb labels (t .bytes) a, le-ltb readings (n * p) b)
 
 -- the room that an answer has is enough for its records and its rows
 
-neither-first : (w a b : Bool) → cond w Room.TooLarge (cond (a || b) Room.TooLong Room.Fits) ≡ Room.Fits → a ≡ false
-neither-first true a b h = cc
-neither-first false true b h = cc
+-- 9, then 10, by tests
+abbrev byTests : Bool → Bool → ℕ
+byTests large long = cond large 9 (cond long 10 0)
+
+not-wide : (w a b : Bool) → byTests (w || a) b ≡ 0 → w ≡ false
+not-wide true a b h = absurd (omega arith)
+not-wide false a b h = refl
+
+neither-first : (w a b : Bool) → byTests w (a || b) ≡ 0 → a ≡ false
+neither-first true a b h = absurd (omega arith)
+neither-first false true b h = absurd (omega arith)
 neither-first false false b h = refl
 
-neither-second : (w a b : Bool) → cond w Room.TooLarge (cond (a || b) Room.TooLong Room.Fits) ≡ Room.Fits → b ≡ false
-neither-second true a b h = cc
-neither-second false true b h = cc
-neither-second false false true h = cc
+neither-second : (w a b : Bool) → byTests w (a || b) ≡ 0 → b ≡ false
+neither-second true a b h = absurd (omega arith)
+neither-second false true b h = absurd (omega arith)
+neither-second false false true h = absurd (omega arith)
 neither-second false false false h = refl
 
-module _ (n p : ℕ) (t : Tally) (labels readings : ℕ) (room : Room) (asked : room ≡ roomOf n p t labels readings) (h : room ≡ Room.Fits) where
-  tests : roomOf n p t labels readings ≡ Room.Fits
-  tests = sym asked ∙ h
+module _ (n p : ℕ) (t : Tally) (labels readings : ℕ)
+    (room : Room) (asked : roomNumber room ≡ roomRefusal n p t labels readings) (h : room ≡ Room.Fits) where
+  large : Bool
+  large = t .«too_many_tags» || ltb maxLabelBytes (t .bytes)
+
+  tests : byTests large (ltb labels (t .bytes) || ltb readings (n * p)) ≡ 0
+  unfolding large
+  tests = sym asked ∙ rw h
+
+  pub records-narrow : (f : ℕ → Labels) (rows : List ℕ) → TallyOf f rows t → someWide f rows ≡ false
+  unfolding large
+  records-narrow f rows k =
+      sym (k .wide) ∙ not-wide (t .«too_many_tags») (ltb maxLabelBytes (t .bytes)) (ltb labels (t .bytes) || ltb readings (n * p)) tests
 
   pub records-fit : (f : ℕ → Labels) (rows : List ℕ) → TallyOf f rows t → length (recordsOf f rows) ≤ labels
   records-fit f rows k =
-      let few : t .bytes ≤ labels = ltb-false labels (t .bytes) (neither-first (t .wide || ltb maxLabelBytes (t .bytes)) (ltb labels (t .bytes)) (ltb readings (n * p)) tests) in
-      omega (arith, k .bytes)
+      let few = ltb-false labels (t .bytes) (neither-first large (ltb labels (t .bytes)) (ltb readings (n * p)) tests) in
+      omega (arith, k .bytes, few)
 
   pub rows-fit : n * p ≤ readings
-  rows-fit = ltb-false readings (n * p) (neither-second (t .wide || ltb maxLabelBytes (t .bytes)) (ltb labels (t .bytes)) (ltb readings (n * p)) tests)
+  rows-fit = ltb-false readings (n * p) (neither-second large (ltb labels (t .bytes)) (ltb readings (n * p)) tests)
 
 -- the loop that tallies
 
@@ -86,7 +105,7 @@ pub record Tallying (f : ℕ → Labels) (rows : List ℕ) (r : ℕ) (t : Tally)
   pub within : r ≤ length rows
   pub few : length rows ≤ maxSeries
   pub bytes : t .bytes + length (recordsOf f (drop r rows)) ≡ length (recordsOf f rows)
-  pub wide : (t .wide || someWide f (drop r rows)) ≡ someWide f rows
+  pub wide : (t .«too_many_tags» || someWide f (drop r rows)) ≡ someWide f rows
   pub small : t .bytes ≤ r * mostOfRecord
 
 either-first : (a b c : Bool) → ((a || b) || c) ≡ (a || (b || c))
@@ -120,7 +139,10 @@ module _ (f : ℕ → Labels) (rows : List ℕ) where
             within = omega arith;
             few = inv .few;
             bytes = omega (arith, inv .bytes, records-step, s .sized .bytes);
-            wide = either-first (t .wide) (ltb maxTags (z .tags)) (someWide f (drop (r + 1) rows)) ∙ ap (λ (b : Bool). t .wide || b) (sym wide-step) ∙ inv .wide;
+            wide =
+                either-first (t .«too_many_tags») (ltb maxTags (z .tags)) (someWide f (drop (r + 1) rows))
+                ∙ ap (λ (b : Bool). t .«too_many_tags» || b) (sym wide-step)
+                ∙ inv .wide;
             small = omega (arith, inv .small, s .small);
           })
 
@@ -135,5 +157,5 @@ module _ (f : ℕ → Labels) (rows : List ℕ) where
     tally-ends h =
         record {
           bytes = omega (arith, inv .bytes, none-left h);
-          wide = sym (either-last (t .wide)) ∙ ap (λ (b : Bool). t .wide || b) (sym (none-wide h)) ∙ inv .wide;
+          wide = sym (either-last (t .«too_many_tags»)) ∙ ap (λ (b : Bool). t .«too_many_tags» || b) (sym (none-wide h)) ∙ inv .wide;
         }

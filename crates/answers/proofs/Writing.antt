@@ -54,7 +54,8 @@ module _ (part : ℕ → List ℕ) (rows d₀ : List ℕ) where
       writing-count = whole .next ∙ zero-add (length (gather part rows))
 
 -- the records of rows
-pub records-put : (f : ℕ → Labels) (rows d₀ : List ℕ) (r : ℕ) (d : List ℕ) (o : ℕ) → Writing (λ x. encode (f x)) rows d₀ r d o → length rows ≤ r → RecordsPut f rows d₀ d o
+pub records-put : (f : ℕ → Labels) (rows d₀ : List ℕ) (r : ℕ) (d : List ℕ) (o : ℕ) → Writing (λ x. encode (f x)) rows d₀ r d o → length rows ≤ r
+    → RecordsPut f rows d₀ d o
 records-put f rows d₀ r d o inv h =
     record {
       out = writing-ends (λ x. encode (f x)) rows d₀ r d o inv h;

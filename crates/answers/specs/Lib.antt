@@ -1,2 +1,3 @@
 pub mod Outcomes
 pub mod Tallies
+pub mod Plans

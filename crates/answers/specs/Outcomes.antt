@@ -5,13 +5,18 @@ use mathlib.Core.List.{List, _++_}
 use lib.ListN.{length, drop}
 use Rattle.semantics.specs.Call as Call
 use Rattle.semantics.specs.Call.{refused, answered}
+use Rattle.answers.specs.declared.Told.{Told}
+use Rattle.answers.specs.declared.Told.the-variants as T
 use Rattle.answers.specs.declared.Outcome.{Outcome}
-use Rattle.answers.specs.declared.Outcome.the-variants.{Answer, BadOperator, Malformed, Cut, BadKey, Readings, Unequal, LeftTwice, RightTwice, TooLarge, TooLong}
+use Rattle.answers.specs.declared.Outcome.the-variants.{Answer, BadOperator, Malformed, Cut, BadKey, Readings, Unequal, LeftTwice, RightTwice}
+use Rattle.answers.specs.declared.Outcome.the-variants.{TooLarge, TooLong}
 
 -- an answer's series, points and label bytes; or a refusal's number and fields
-pub data Told : Type 0 where
-  answer : ℕ → ℕ → ℕ → Told
-  refusal : ℕ → ℕ → ℕ → Told
+abbrev pub answer : ℕ → ℕ → ℕ → Told
+answer series points bytes = T.Answer series points bytes
+
+abbrev pub refusal : ℕ → ℕ → ℕ → Told
+refusal number first second = T.Refusal number first second
 
 -- 01: A refusal has its number and two fields, 0 if not named.
 abbrev pub told : Outcome → Told

@@ -1,4 +1,5 @@
--- What an answer takes, whether it fits, and what writing its records leaves. A row of an answer is a number, its code; f gives the labels of a code. Assumes nothing.
+-- What an answer takes, whether it fits, and what writing its records leaves. A row of an answer is a number, its code;
+-- f gives the labels of a code. Assumes nothing.
 use Prim.Native.Nat.{ℕ, _+_, _*_, _≤_}
 use mathlib.Core.Path.{_≡_}
 use mathlib.Core.Bool.{Bool, false, _||_, cond}
@@ -30,11 +31,11 @@ pub record SizedRecord (l : Labels) (z : Size) : Type 0 where
   pub small : z .bytes ≤ mostOfRecord
 
 abbrev pub noTally : Tally
-noTally = record { bytes = 0; wide = false }
+noTally = record { bytes = 0; «too_many_tags» = false }
 
 -- with one more record
 abbrev pub withSize : Tally → Size → Tally
-withSize t z = record { bytes = t .bytes + z .bytes; wide = t .wide || ltb maxTags (z .tags) }
+withSize t z = record { bytes = t .bytes + z .bytes; «too_many_tags» = t .«too_many_tags» || ltb maxTags (z .tags) }
 
 -- the records of rows, one behind another
 abbrev pub recordsOf : (ℕ → Labels) → List ℕ → List ℕ
@@ -53,12 +54,16 @@ someWide f (x ∷ rows) = ltb maxTags (length (f x .tags)) || someWide f rows
 -- what the records of rows come to
 pub record TallyOf (f : ℕ → Labels) (rows : List ℕ) (t : Tally) : Type 0 where
   pub bytes : t .bytes ≡ length (recordsOf f rows)
-  pub wide : t .wide ≡ someWide f rows
+  pub wide : t .«too_many_tags» ≡ someWide f rows
+
+-- 01's number of the code's answers, 0 where nothing is refused
+abbrev pub roomNumber : Room → ℕ
+roomNumber Fits = 0
+roomNumber TooLarge = 9
+roomNumber TooLong = 10
 
 -- 01: 9, the answer has over 32 tags or 65,535 label bytes; then 10, it is longer than a lent output part.
--- Of an answer of at most 512 series.
-abbrev pub roomOf : ℕ → ℕ → Tally → ℕ → ℕ → Room
-roomOf series points t labels readings =
-    cond (t .wide || ltb maxLabelBytes (t .bytes))
-    TooLarge
-    (cond (ltb labels (t .bytes) || ltb readings (series * points)) TooLong Fits)
+-- The number for an answer of at most 512 series, 0 where it fits.
+abbrev pub roomRefusal : ℕ → ℕ → Tally → ℕ → ℕ → ℕ
+roomRefusal series points t labels readings =
+    cond (t .«too_many_tags» || ltb maxLabelBytes (t .bytes)) 9 (cond (ltb labels (t .bytes) || ltb readings (series * points)) 10 0)

@@ -5,7 +5,8 @@ ghost use mathlib.Core.Path.{_≡_};
 ghost use Prim.Native.Nat.{_+_, _*_, _≤_, _<_};
 ghost use lib.ListN.{length};
 ghost use Rattle.model.specs.Limits.{maxSeries, maxPoints};
-ghost use Rattle.answers.specs.Tallies.{withSize, roomOf, mostBytes};
+ghost use Rattle.answers.specs.Outcomes.{told, refusal};
+ghost use Rattle.answers.specs.Tallies.{withSize, roomNumber, roomRefusal, mostBytes};
 
 // What a call comes to. The case `Cut` is also that of sizes above a limit.
 pub enum Outcome {
@@ -40,10 +41,68 @@ pub enum Outcome {
     TooLong,
 }
 
+// An outcome in 01's numbers.
+pub enum Told {
+    Answer {
+        series: usize,
+        points: usize,
+        bytes: usize,
+    },
+    Refusal {
+        number: usize,
+        first: usize,
+        second: usize,
+    },
+}
+
+fn refusal(number: usize, first: usize, second: usize) -> Told
+    ensures { λ r. ⌜ r ≡ refusal number first second ⌝ }
+{
+    Told::Refusal {
+        number,
+        first,
+        second,
+    }
+}
+
+// Tells an outcome: the one place that gives each refusal its number and fields.
+pub fn told_as(x: Outcome) -> Told
+    ensures { λ r. ⌜ r ≡ told x ⌝ }
+{
+    match x {
+        Outcome::Answer {
+            series,
+            points,
+            bytes,
+        } => Told::Answer {
+            series,
+            points,
+            bytes,
+        },
+        Outcome::BadOperator => refusal(1, 0, 0),
+        Outcome::Malformed => refusal(2, 0, 0),
+        Outcome::Cut { side, place } => refusal(3, side, place),
+        Outcome::BadKey { side, place } => refusal(4, side, place),
+        Outcome::Readings { side } => refusal(5, side, 0),
+        Outcome::Unequal => refusal(6, 0, 0),
+        Outcome::LeftTwice { kept, failed } => refusal(7, kept, failed),
+        Outcome::RightTwice { kept, failed } => refusal(8, kept, failed),
+        Outcome::TooLarge => refusal(9, 0, 0),
+        Outcome::TooLong => refusal(10, 0, 0),
+    }
+}
+
+// What a plan comes to: how many rows its answer has, or the series kept and the one that failed to merge.
+pub enum Planned {
+    Rows(usize),
+    LeftTwice { kept: usize, failed: usize },
+    RightTwice { kept: usize, failed: usize },
+}
+
 // Label bytes of an answer, and whether a record has too many tags.
 pub struct Tally {
     pub bytes: usize,
-    pub wide: bool,
+    pub too_many_tags: bool,
 }
 
 // The tally with one more record.
@@ -52,12 +111,15 @@ pub fn tallied(t: Tally, s: Size) -> Tally
     ensures { λ r. ⌜ r ≡ withSize t s ⌝ }
 {
     let bytes = t.bytes + s.bytes;
-    if t.wide {
-        return Tally { bytes, wide: true };
+    if t.too_many_tags {
+        return Tally {
+            bytes,
+            too_many_tags: true,
+        };
     }
     Tally {
         bytes,
-        wide: Operator::MAX_TAGS < s.tags,
+        too_many_tags: Operator::MAX_TAGS < s.tags,
     }
 }
 
@@ -71,9 +133,9 @@ pub enum Room {
 pub fn room_for(series: usize, points: usize, t: Tally, labels: usize, readings: usize) -> Room
     requires { ⌜ series ≤ maxSeries ⌝ }
     requires { ⌜ points ≤ maxPoints ⌝ }
-    ensures { λ r. ⌜ r ≡ roomOf series points t labels readings ⌝ }
+    ensures { λ r. ⌜ roomNumber r ≡ roomRefusal series points t labels readings ⌝ }
 {
-    if t.wide {
+    if t.too_many_tags {
         return Room::TooLarge;
     }
     if Operator::MAX_LABEL_BYTES < t.bytes {

@@ -1,13 +1,15 @@
 -- What each stage of a call comes to, by what taking found. Assumes nothing.
 use Prim.Native.Nat.{ℕ, _+_, _-_, _≤_, _<_}
-use mathlib.Core.Path.{_≡_, refl, sym, _∙_}
-use mathlib.Core.List.{List}
+use mathlib.Core.Path.{_≡_, refl, sym}
+use mathlib.Core.List.{List, [], _∷_, _++_}
+use mathlib.Core.Logic.{inl, inr}
+use types.Run.{OneOf}
+use denote.Enum.Declared.{tagOf}
 use native.Mathlib.Omega.{arith}
-use mir.Syntax.{w8, w64}
-use mir.Val.{Fits}
-use lib.ListN.{length, getD, take, drop, length-drop}
-use lib.Seq.{take-all}
+use lib.ListN.{length, getD, take, drop, length-append}
+use lib.Seq.{length-take-le, take-at}
 use borrow.Author.Tests.{eq-eqb, ne-eqb}
+use Rattle.model.specs.Limits.{sizesLength}
 use Rattle.model.specs.Query as Model
 use Rattle.model.specs.Vector.{Series, Shape, Vector, takeVector, labelPart}
 use Rattle.model.specs.Laws.Vector.{taken-is}
@@ -16,20 +18,69 @@ use Rattle.semantics.specs.Call.{running, onVector, call}
 use Rattle.query.specs.declared.Query.{Query}
 use Rattle.query.specs.declared.Request.{Request}
 use Rattle.query.specs.declared.Request.the-variants as R
-use Rattle.query.specs.Queries.{queryOf, TakenAs}
+use Rattle.query.specs.Queries.{queryOf, requestNumber, matchingPart, TakenAs}
+use Rattle.query.proofs.Request.{the-type as request-type}
 use Rattle.query.proofs.Takes.{query-taken, operator-refused, query-malformed}
 use Rattle.timeseries.specs.declared.Taken.{Taken}
 use Rattle.timeseries.specs.declared.Taken.the-variants as T
-use Rattle.timeseries.specs.Takes.{TakenInto}
-use Rattle.timeseries.specs.TakeLaws.{SideTaken, side-taken, taken-long, taken-cut, taken-bad-key, taken-readings}
+use Rattle.timeseries.proofs.Taken.{the-type as taken-type}
+use Rattle.timeseries.specs.Takes.{TakenInto, takenNumber, takenPlace}
+use Rattle.timeseries.specs.TakeLaws.{taken-refused}
 use Rattle.answers.specs.declared.Outcome.{Outcome}
 use Rattle.answers.specs.declared.Outcome.the-variants as Out
-use Rattle.answers.specs.Outcomes.{Ran}
-use Rattle.keyed_sides.specs.Lent.{LentSide, lentVector, bytes-of, readings-of, lent-vector, lent-side}
-use Rattle.binop_vector_vector.specs.dispatch.Runs.{Asked, ranOver}
-use Rattle.binop_vector_vector.specs.Stages.{asked-carried, leftStage, call-asked, call-operator, call-malformed}
+use Rattle.answers.specs.Outcomes.{Ran, told, refusal}
+use Rattle.operator.specs.Kinds.{kindOf}
+use Rattle.labels.specs.Names.{namesOf}
+use Rattle.labels.specs.Matchings.{matchingOf}
+use Rattle.side_parts.specs.Lent.{Sides, BothHeld, ofPoints}
+use Rattle.keyed_sides.specs.Keyed.{dropsMissing, KeysKept, SidesKeyed, withKeys, kept-keyed-by}
+use Rattle.keyed_sides.specs.TakenSides.{TakenSide, lentVector, Took}
+use Rattle.binop_vector_vector.specs.dispatch.Runs.{Asked, ranTaken}
+use Rattle.binop_vector_vector.specs.Stages.{asked-carried, leftStage, rightStage, call-asked, call-operator, call-malformed}
 
--- a query, taken or refused
+-- `fault_of`
+
+module _ (side : ℕ) (t : Taken) where
+  pub fault-cut : (i : ℕ) → t ≡ T.Cut i → told (Out.Cut side i) ≡ refusal (takenNumber t) side (takenPlace t)
+  fault-cut i e = rw e
+
+  pub fault-bad-key : (i : ℕ) → t ≡ T.BadKey i → told (Out.BadKey side i) ≡ refusal (takenNumber t) side (takenPlace t)
+  fault-bad-key i e = rw e
+
+  pub fault-readings : t ≡ T.Readings → told (Out.Readings side) ≡ refusal (takenNumber t) side (takenPlace t)
+  fault-readings e = rw e
+
+-- a vector is not refused
+pub fault-none : (t : Taken) {A : Type 0} → 0 < takenNumber t → tagOf taken-type t ≡ 0 → A
+fault-none (T.Vector n p) h e = absurd (omega (arith, h))
+fault-none (T.Cut i) h e = absurd (omega (arith, e))
+fault-none (T.BadKey i) h e = absurd (omega (arith, e))
+fault-none T.Readings h e = absurd (omega (arith, e))
+
+-- `refusal_of`
+
+module _ (r : Request) where
+  pub refusal-operator : r ≡ R.BadOperator → told Out.BadOperator ≡ refusal (requestNumber r) 0 0
+  refusal-operator e = rw e
+
+  pub refusal-malformed : r ≡ R.Malformed → told Out.Malformed ≡ refusal (requestNumber r) 0 0
+  refusal-malformed e = rw e
+
+pub refusal-none : (r : Request) {A : Type 0} → 0 < requestNumber r → tagOf request-type r ≡ 0 → A
+refusal-none (R.Asked q) h e = absurd (omega (arith, h))
+refusal-none R.BadOperator h e = absurd (omega (arith, e))
+refusal-none R.Malformed h e = absurd (omega (arith, e))
+
+-- a query that is refused, or taken
+
+pub refused-number : (r : Request) → OneOf (1 ∷ 2 ∷ []) (tagOf request-type r) → 0 < requestNumber r
+refused-number (R.Asked q) h = absurd (not-zero h)
+  where
+    not-zero : OneOf (1 ∷ 2 ∷ []) 0 → ⊥
+    not-zero (inl e) = omega (arith, e)
+    not-zero (inr e) = omega (arith, e)
+refused-number R.BadOperator h = omega arith
+refused-number R.Malformed h = omega arith
 
 module _ (s : List ℕ) (r : Request) (h : TakenAs s (Model.takeQuery s) r) where
   module _ (q : Query) (e : r ≡ R.Asked q) where
@@ -40,74 +91,148 @@ module _ (s : List ℕ) (r : Request) (h : TakenAs s (Model.takeQuery s) r) wher
     asked = record { within = h .within q e; carried = asked-carried s q asked-as }
 
   module _ (labels readings labels′ readings′ labels₀ out₀ : List ℕ) where
-    pub ran-operator : r ≡ R.BadOperator → Ran (call s labels readings labels′ readings′ (length labels₀) (length out₀)) labels₀ out₀ labels₀ out₀ Out.BadOperator
-    ran-operator e =
-        rw (call-operator s labels readings labels′ readings′ (length labels₀) (length out₀) (operator-refused s (Model.takeQuery s) (rw e at h)))
-        (record { outcome = refl; labelPart = refl; readingPart = refl })
+    pub ran-refused : (x : Outcome) → 0 < requestNumber r → told x ≡ refusal (requestNumber r) 0 0
+        → Ran (call s labels readings labels′ readings′ (length labels₀) (length out₀)) labels₀ out₀ labels₀ out₀ x
+    ran-refused x n e = by r refl n e
+      where
+        by : (r′ : Request) → r ≡ r′ → 0 < requestNumber r′ → told x ≡ refusal (requestNumber r′) 0 0
+            → Ran (call s labels readings labels′ readings′ (length labels₀) (length out₀)) labels₀ out₀ labels₀ out₀ x
+        by (R.Asked q) y n t = absurd (omega (arith, n))
+        by R.BadOperator y n t = rw
+            (call-operator s labels readings labels′ readings′ (length labels₀) (length out₀) (operator-refused s (Model.takeQuery s) (rw y at h)))
+            (record { outcome = t; labelPart = refl; readingPart = refl })
+        by R.Malformed y n t = rw
+            (call-malformed s labels readings labels′ readings′ (length labels₀) (length out₀) (query-malformed s (Model.takeQuery s) (rw y at h)))
+            (record { outcome = t; labelPart = refl; readingPart = refl })
 
-    pub ran-malformed : r ≡ R.Malformed → Ran (call s labels readings labels′ readings′ (length labels₀) (length out₀)) labels₀ out₀ labels₀ out₀ Out.Malformed
-    ran-malformed e =
-        rw (call-malformed s labels readings labels′ readings′ (length labels₀) (length out₀) (query-malformed s (Model.takeQuery s) (rw e at h)))
-        (record { outcome = refl; labelPart = refl; readingPart = refl })
-
-    pub ran-asked : (q : Query) → r ≡ R.Asked q → (d o : List ℕ) (x : Outcome) → Ran (leftStage (queryOf s q) labels readings labels′ readings′ (length labels₀) (length out₀)) labels₀ out₀ d o x → Ran (call s labels readings labels′ readings′ (length labels₀) (length out₀)) labels₀ out₀ d o x
+    pub ran-asked : (q : Query) → r ≡ R.Asked q → (d o : List ℕ) (x : Outcome)
+        → Ran (leftStage (queryOf s q) labels readings labels′ readings′ (length labels₀) (length out₀)) labels₀ out₀ d o x
+        → Ran (call s labels readings labels′ readings′ (length labels₀) (length out₀)) labels₀ out₀ d o x
     ran-asked q e d o x k = rw (call-asked s labels readings labels′ readings′ (length labels₀) (length out₀) (queryOf s q) (asked-as q e)) k
 
--- a side, taken or refused, and what follows
+-- a side that is refused, or taken, and what follows
 
-behind-sizes : (s : List ℕ) → take (length s - 6) (drop 6 s) ≡ drop 6 s
-behind-sizes s = take-all (length s - 6) (drop 6 s) (omega (arith, length-drop 6 s))
+pub taken-number : (t : Taken) → OneOf (1 ∷ 2 ∷ 3 ∷ []) (tagOf taken-type t) → 0 < takenNumber t
+taken-number (T.Vector n p) h = absurd (not-zero h)
+  where
+    not-zero : OneOf (1 ∷ 2 ∷ 3 ∷ []) 0 → ⊥
+    not-zero (inl e) = omega (arith, e)
+    not-zero (inr (inl e)) = omega (arith, e)
+    not-zero (inr (inr e)) = omega (arith, e)
+taken-number (T.Cut i) h = omega arith
+taken-number (T.BadKey i) h = omega arith
+taken-number T.Readings h = omega arith
 
-part-long : (shape : Shape) (ss : List Series) → 6 ≤ length (labelPart shape ss)
-unfolding labelPart
-part-long shape ss = omega arith
+module _ (side : ℕ) (s x : List ℕ) (f : Vector → Call.Outcome) (labels₀ out₀ : List ℕ) where
+  pub ran-fault : (before after : List ℕ) (t : Taken) → TakenInto s x before t after → (y : Outcome) → 0 < takenNumber t
+      → told y ≡ refusal (takenNumber t) side (takenPlace t) → Ran (onVector (takeVector side s x) f) labels₀ out₀ labels₀ out₀ y
+  ran-fault before after t into y n e =
+      rw (taken-refused side s x t (into .answer) n) (record { outcome = e; labelPart = refl; readingPart = refl })
 
-module _ (side : ℕ) (s x before after : List ℕ) (t : Taken) (into : TakenInto s x before t after) where
-  module _ (f : Vector → Call.Outcome) (labels₀ out₀ : List ℕ) where
-    pub ran-cut : (i : ℕ) → t ≡ T.Cut i → Ran (onVector (takeVector side s x) f) labels₀ out₀ labels₀ out₀ (Out.Cut side i)
-    ran-cut i e = rw (taken-cut side s x t (into .answer) i e) (record { outcome = refl; labelPart = refl; readingPart = refl })
-
-    pub ran-bad-key : (i : ℕ) → t ≡ T.BadKey i → Ran (onVector (takeVector side s x) f) labels₀ out₀ labels₀ out₀ (Out.BadKey side i)
-    ran-bad-key i e = rw (taken-bad-key side s x t (into .answer) i e) (record { outcome = refl; labelPart = refl; readingPart = refl })
-
-    pub ran-readings : t ≡ T.Readings → Ran (onVector (takeVector side s x) f) labels₀ out₀ labels₀ out₀ (Out.Readings side)
-    ran-readings e = rw (taken-readings side s x t (into .answer) e) (record { outcome = refl; labelPart = refl; readingPart = refl })
-
-  module _ (room : length before ≡ 513) (n p : ℕ) (e : t ≡ T.Vector n p) where
-    side-is : SideTaken side s x after n p
-    side-is = side-taken side s x before after room t into n p e
-
-    pub taken-few : n ≤ 512
-    taken-few = side-is .few
-
-    pub taken-entries : n + 1 ≤ length after
-    taken-entries = omega (arith, taken-few, taken-long s x before after t into, room)
-
-    pub entry-fits : Fits w64 (n + 1)
-    entry-fits = let h = taken-few in omega arith
-
-    pub entries-lent : n + 1 ≡ length (take (n + 1) after)
-    entries-lent = sym (side-is .entries)
-
-    module _ (b : (j : ℕ) → Fits w8 (getD s j 0)) (w : (j : ℕ) → Fits w64 (getD x j 0)) where
-      pub sizes-stand : 6 ≤ length s
-      sizes-stand = rw (taken-is side s x (side-is .v) (bytes-of s b) (readings-of x w) (side-is .taken) .labels) (part-long (side-is .v .shape) (side-is .v .series))
-
-      pub taken-lent : LentSide p (take (length s - 6) (drop 6 s)) (take (n + 1) after) x
-      taken-lent = rw (behind-sizes s) (lent-side side s x after n p side-is (bytes-of s b) (readings-of x w))
-
-    pub ran-taken : (f : Vector → Call.Outcome) (labels₀ out₀ d o : List ℕ) (y : Outcome) → Ran (f (lentVector p (take (length s - 6) (drop 6 s)) (take (n + 1) after) x)) labels₀ out₀ d o y → Ran (onVector (takeVector side s x) f) labels₀ out₀ d o y
-    ran-taken f labels₀ out₀ d o y k = rw (lent-vector side s x after n p side-is, ← behind-sizes s) k
-
-pub lent-again : (p points : ℕ) (array at rows : List ℕ) → points ≡ p → LentSide points array at rows → LentSide p array at rows
-lent-again p points array at rows e h = rw e at h
+  pub ran-taken : (after : List ℕ) (n p : ℕ) → Took side s x after n p → (d o : List ℕ) (y : Outcome)
+      → Ran (f (lentVector p (take (length s - sizesLength) (drop sizesLength s)) (take (n + 1) after) x)) labels₀ out₀ d o y
+      → Ran (onVector (takeVector side s x) f) labels₀ out₀ d o y
+  ran-taken after n p took d o y k = rw (took .vector) k
 
 -- 01: 6, the sides' p differ
 module _ (q : Model.Query) (p : ℕ) (array at rows : List ℕ) (points : ℕ) (array′ at′ rows′ labels₀ out₀ : List ℕ) where
-  pub ran-unequal : (points ≡ p → ⊥) → Ran (running (length labels₀) (length out₀) q (lentVector p array at rows) (lentVector points array′ at′ rows′)) labels₀ out₀ labels₀ out₀ Out.Unequal
+  abbrev runs : Call.Outcome
+  runs = running (length labels₀) (length out₀) q (lentVector p array at rows) (lentVector points array′ at′ rows′)
+
+  ran-unequal : (points ≡ p → ⊥) → Ran runs labels₀ out₀ labels₀ out₀ Out.Unequal
   unfolding running
   ran-unequal h = rw (ne-eqb p points (λ e. h (sym e))) (record { outcome = refl; labelPart = refl; readingPart = refl })
 
-  pub ran-equal : points ≡ p → (d o : List ℕ) (y : Outcome) → Ran (ranOver q p array at rows array′ at′ rows′ (length labels₀) (length out₀)) labels₀ out₀ d o y → Ran (running (length labels₀) (length out₀) q (lentVector p array at rows) (lentVector points array′ at′ rows′)) labels₀ out₀ d o y
+  ran-equal : points ≡ p → (d o : List ℕ) (y : Outcome)
+      → Ran (ranTaken q p array at rows array′ at′ rows′ (length labels₀) (length out₀)) labels₀ out₀ d o y → Ran runs labels₀ out₀ d o y
   unfolding running
   ran-equal e d o y k = rw (e, eq-eqb p p refl) k
+
+-- both sides taken
+module _ (s x after : List ℕ) (n p : ℕ) (l : Took 0 s x after n p) (s′ x′ after′ : List ℕ) (n′ p′ : ℕ) (r : Took 1 s′ x′ after′ n′ p′)
+    (q : Model.Query) (labels₀ out₀ : List ℕ) where
+  abbrev lefts : Vector
+  lefts = lentVector p (take (length s - sizesLength) (drop sizesLength s)) (take (n + 1) after) x
+
+  abbrev rights : Vector
+  rights = lentVector p′ (take (length s′ - sizesLength) (drop sizesLength s′)) (take (n′ + 1) after′) x′
+
+  ran-both : (d o : List ℕ) (y : Outcome) → Ran (running (length labels₀) (length out₀) q lefts rights) labels₀ out₀ d o y
+      → Ran (leftStage q s x s′ x′ (length labels₀) (length out₀)) labels₀ out₀ d o y
+  ran-both d o y k =
+      ran-taken 0 s x (λ v. rightStage q v s′ x′ (length labels₀) (length out₀)) labels₀ out₀ after n p l d o y
+      (ran-taken 1 s′ x′ (λ v. running (length labels₀) (length out₀) q lefts v) labels₀ out₀ after′ n′ p′ r d o y k)
+
+  pub ran-apart : (p′ ≡ p → ⊥) → Ran (leftStage q s x s′ x′ (length labels₀) (length out₀)) labels₀ out₀ labels₀ out₀ Out.Unequal
+  ran-apart h =
+      ran-both labels₀ out₀ Out.Unequal
+      (ran-unequal q p (take (length s - sizesLength) (drop sizesLength s)) (take (n + 1) after) x p′
+      (take (length s′ - sizesLength) (drop sizesLength s′)) (take (n′ + 1) after′) x′ labels₀ out₀ h)
+
+  pub ran-alike : p′ ≡ p → (d o : List ℕ) (y : Outcome)
+      → Ran (ranTaken q p (take (length s - sizesLength) (drop sizesLength s)) (take (n + 1) after) x
+      (take (length s′ - sizesLength) (drop sizesLength s′)) (take (n′ + 1) after′) x′
+      (length labels₀) (length out₀)) labels₀ out₀ d o y
+      → Ran (leftStage q s x s′ x′ (length labels₀) (length out₀)) labels₀ out₀ d o y
+  ran-alike h d o y k =
+      ran-both d o y
+      (ran-equal q p (take (length s - sizesLength) (drop sizesLength s)) (take (n + 1) after) x p′
+      (take (length s′ - sizesLength) (drop sizesLength s′)) (take (n′ + 1) after′) x′ labels₀ out₀ h d o y k)
+
+-- on the points of the other side
+pub held-alike : (p points : ℕ) (array at rows : List ℕ) → points ≡ p → TakenSide points array at rows → TakenSide p array at rows
+held-alike p points array at rows e t = rw e at t
+
+-- `run`: the numbers stand at the start of the key arrays
+
+-- room for a key number for each series
+front-count : (p : ℕ) (array at rows work : List ℕ) → TakenSide p array at rows → length work ≡ 512
+    → length at ≡ length (take (length at - 1) work) + 1
+front-count p array at rows work t e =
+    omega (arith, t .some, t .few, length-take-le (length at - 1) work (omega (arith, t .few, e)))
+
+pub side-few : (p : ℕ) (array at rows : List ℕ) → TakenSide p array at rows → length at - 1 ≤ 512
+side-few p array at rows t = omega (arith, t .few)
+
+-- both sides, with any numbers for keys
+pub run-held : (p : ℕ) (array at rows array′ at′ rows′ work work′ : List ℕ) → TakenSide p array at rows → TakenSide p array′ at′ rows′
+    → length work ≡ 512 → length work′ ≡ 512
+    → BothHeld (record {
+      shape = ofPoints p;
+      left = record { array = array; at = at; keys = take (length at - 1) work; rows = rows };
+      right = record { array = array′; at = at′; keys = take (length at′ - 1) work′; rows = rows′ };
+    })
+run-held p array at rows array′ at′ rows′ work work′ l r e e′ = record {
+  left = l .held (take (length at - 1) work) (front-count p array at rows work l e);
+  right = r .held (take (length at′ - 1) work′) (front-count p array′ at′ rows′ work′ r e′);
+}
+
+module _ (s : List ℕ) (q : Query) (x : Sides) (b : BothHeld x) (d d′ : List ℕ)
+    (k : KeysKept (matchingOf (q .matching)) (namesOf (matchingPart s (q .«join_at»))) (dropsMissing (kindOf (q .operator))) x d d′) where
+  keyed : SidesKeyed (queryOf s q) (dropsMissing (kindOf (q .operator))) (withKeys x d d′)
+  keyed = kept-keyed-by (queryOf s q) (dropsMissing (kindOf (q .operator))) x b d d′ k
+
+  left-count : length d ≡ length (x .left .at) - 1
+  left-count = omega (arith, keyed .both .left .count)
+
+  right-count : length d′ ≡ length (x .right .at) - 1
+  right-count = omega (arith, keyed .both .right .count)
+
+  module _ (rest : List ℕ) where
+    pub left-within : length (x .left .at) - 1 ≤ length (d ++ rest)
+    left-within = omega (arith, left-count, length-append d rest)
+
+    pub right-within : length (x .right .at) - 1 ≤ length (d′ ++ rest)
+    right-within = omega (arith, right-count, length-append d′ rest)
+
+    pub left-front : length (x .left .at) - 1 ≡ length (take (length (x .left .at) - 1) (d ++ rest))
+    left-front = rw (take-at d rest (length (x .left .at) - 1) left-count) (sym left-count)
+
+    pub right-front : length (x .right .at) - 1 ≡ length (take (length (x .right .at) - 1) (d′ ++ rest))
+    right-front = rw (take-at d′ rest (length (x .right .at) - 1) right-count) (sym right-count)
+
+  pub sides-numbered : (rest rest′ : List ℕ)
+      → SidesKeyed (queryOf s q) (dropsMissing (kindOf (q .operator)))
+      (withKeys x (take (length (x .left .at) - 1) (d ++ rest)) (take (length (x .right .at) - 1) (d′ ++ rest′)))
+  sides-numbered rest rest′ =
+      rw (take-at d rest (length (x .left .at) - 1) left-count, take-at d′ rest′ (length (x .right .at) - 1) right-count) keyed

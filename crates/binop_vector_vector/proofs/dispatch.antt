@@ -1,4 +1,2 @@
 pub mod Verdicts
-pub mod Sides
-pub mod Operators
 pub mod Matched

@@ -1,6 +1,6 @@
 -- A call in the stages that the code goes through: the query taken, the left side, the right side, then running. Assumes nothing.
 use Prim.Native.Nat.{ℕ}
-use mathlib.Core.Path.{_≡_, refl, ap, _∙_}
+use mathlib.Core.Path.{_≡_, ap}
 use mathlib.Core.Bool.{true}
 use mathlib.Core.List.{List}
 use Rattle.operator.specs.Operators.{isCarried}
@@ -28,11 +28,13 @@ leftStage q labels readings labels′ readings′ labelRoom room = onVector (tak
 -- from stage to stage
 
 module _ (s : List ℕ) (labels readings labels′ readings′ : List ℕ) (labelRoom room : ℕ) where
-  call-by : (t : Model.TakenQuery) → Model.takeQuery s ≡ t → call s labels readings labels′ readings′ labelRoom room ≡ onQuery t (λ q. leftStage q labels readings labels′ readings′ labelRoom room)
+  call-by : (t : Model.TakenQuery) → Model.takeQuery s ≡ t
+      → call s labels readings labels′ readings′ labelRoom room ≡ onQuery t (λ q. leftStage q labels readings labels′ readings′ labelRoom room)
   unfolding call
   call-by t h = rw h
 
-  pub call-asked : (q : Model.Query) → Model.takeQuery s ≡ Model.query q → call s labels readings labels′ readings′ labelRoom room ≡ leftStage q labels readings labels′ readings′ labelRoom room
+  pub call-asked : (q : Model.Query) → Model.takeQuery s ≡ Model.query q
+      → call s labels readings labels′ readings′ labelRoom room ≡ leftStage q labels readings labels′ readings′ labelRoom room
   call-asked q h = call-by (Model.query q) h
 
   pub call-operator : Model.takeQuery s ≡ Model.badOperator → call s labels readings labels′ readings′ labelRoom room ≡ refused 1 0 0

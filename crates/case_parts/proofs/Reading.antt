@@ -28,7 +28,8 @@ module _ (s : List ℕ) (at : ℕ) where
   module _ (n : ℕ) (hn : NumberAt s at n) where
     pub part-cut : length s - (at + 2) < n → PartAt s at (take (length s - (at + 2)) (drop (at + 2) s))
     part-cut h =
-        let all : take (length s - (at + 2)) (drop (at + 2) s) ≡ drop (at + 2) s = take-all (length s - (at + 2)) (drop (at + 2) s) (omega (arith, length-drop (at + 2) s)) in
+        let all : take (length s - (at + 2)) (drop (at + 2) s)
+        ≡ drop (at + 2) s = take-all (length s - (at + 2)) (drop (at + 2) s) (omega (arith, length-drop (at + 2) s)) in
         let most : take n (drop (at + 2) s) ≡ drop (at + 2) s = take-all n (drop (at + 2) s) (omega (arith, length-drop (at + 2) s)) in
         record { bytes = all ∙ sym most ∙ rw (hn .value); small = rw all (omega (arith, length-drop (at + 2) s, hn .small)) }
 

@@ -72,10 +72,12 @@ same-tag t u ts us =
 pub record SameLeft (f : List Tag → List Tag) (s t : List ℕ) (n p k q : ℕ) (want : Bool) : Type 0 where
   pub asked : want ≡ sameTags (f (tagsUpTo n (drop p s))) (f (tagsUpTo k (drop q t)))
 
-pub same-start : (f : List Tag → List Tag) (s t : List ℕ) (n p k q : ℕ) → tagsUpTo n (drop p s) ≡ labelsOf s .tags → tagsUpTo k (drop q t) ≡ labelsOf t .tags → SameLeft f s t n p k q (sameTags (f (labelsOf s .tags)) (f (labelsOf t .tags)))
+pub same-start : (f : List Tag → List Tag) (s t : List ℕ) (n p k q : ℕ) → tagsUpTo n (drop p s) ≡ labelsOf s .tags
+    → tagsUpTo k (drop q t) ≡ labelsOf t .tags → SameLeft f s t n p k q (sameTags (f (labelsOf s .tags)) (f (labelsOf t .tags)))
 same-start f s t n p k q hx hy = record { asked = rw (hx, hy) }
 
-module _ (f : List Tag → List Tag) (s t : List ℕ) (n p k q : ℕ) (want : Bool) (inv : SameLeft f s t n p k q want) (x y : Next) (hx : NextAt f s n p x) (hy : NextAt f t k q y) where
+module _ (f : List Tag → List Tag) (s t : List ℕ) (n p k q : ℕ) (want : Bool) (inv : SameLeft f s t n p k q want) (x y : Next)
+    (hx : NextAt f s n p x) (hy : NextAt f t k q y) where
   stepped : want ≡ sameTags (chosenFrom f s x) (chosenFrom f t y)
   stepped = inv .asked ∙ rw (hx .tags, hy .tags)
 
@@ -119,7 +121,8 @@ module _ (want x : ℕ) (s : List ℕ) (i : ℕ) (inv : want ≡ hashBytes x (dr
 pub record HashLeft (f : List Tag → List Tag) (s : List ℕ) (n p h want : ℕ) : Type 0 where
   pub asked : want ≡ hashBytes h (encodeTags (f (tagsUpTo n (drop p s))))
 
-pub hash-start : (f : List Tag → List Tag) (s : List ℕ) (n p : ℕ) → tagsUpTo n (drop p s) ≡ labelsOf s .tags → HashLeft f s n p 0 (hashOf (f (labelsOf s .tags)))
+pub hash-start : (f : List Tag → List Tag) (s : List ℕ) (n p : ℕ) → tagsUpTo n (drop p s) ≡ labelsOf s .tags
+    → HashLeft f s n p 0 (hashOf (f (labelsOf s .tags)))
 unfolding hashOf
 hash-start f s n p h = record { asked = rw h }
 

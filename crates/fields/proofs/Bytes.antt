@@ -12,7 +12,8 @@ use borrow.Author.Tests.{lt-ltb, le-ltb, ne-eqb, eq-eqb}
 use Rattle.model.specs.Labels.{below, sameBytes}
 
 module _ (a b : List ℕ) (i : ℕ) where
-  pub below-at : i < length a → i < length b → below (drop i a) (drop i b) ≡ (ltb (getD a i 0) (getD b i 0) || (eqb (getD a i 0) (getD b i 0) && below (drop (i + 1) a) (drop (i + 1) b)))
+  pub below-at : i < length a → i < length b
+      → below (drop i a) (drop i b) ≡ (ltb (getD a i 0) (getD b i 0) || (eqb (getD a i 0) (getD b i 0) && below (drop (i + 1) a) (drop (i + 1) b)))
   unfolding below
   below-at p q = rw (drop-cons a i 0 p, drop-cons b i 0 q, add-one)
 
@@ -61,7 +62,8 @@ module _ (a b : List ℕ) (i : ℕ) where
   below-exit-more e p q h =
       rw (e, below-at a b i p q, le-ltb (getD a i 0) (getD b i 0) (omega arith), ne-eqb (getD a i 0) (getD b i 0) (omega arith))
 
-  pub below-turn : below a b ≡ below (drop i a) (drop i b) → i < length a → i < length b → getD b i 0 ≤ getD a i 0 → getD a i 0 ≤ getD b i 0 → below a b ≡ below (drop (i + 1) a) (drop (i + 1) b)
+  pub below-turn : below a b ≡ below (drop i a) (drop i b) → i < length a → i < length b → getD b i 0 ≤ getD a i 0
+      → getD a i 0 ≤ getD b i 0 → below a b ≡ below (drop (i + 1) a) (drop (i + 1) b)
   below-turn e p q h k =
       rw (e, below-at a b i p q, le-ltb (getD a i 0) (getD b i 0) h, eq-eqb (getD a i 0) (getD b i 0) (omega arith))
 
@@ -71,7 +73,8 @@ module _ (a b : List ℕ) (i : ℕ) where
   pub same-exit : sameBytes a b ≡ sameBytes (drop i a) (drop i b) → length a ≡ length b → i < length a → (getD a i 0 ≡ getD b i 0 → ⊥) → false ≡ sameBytes a b
   same-exit e l p h = rw (e, same-at a b i p (omega arith), ne-eqb (getD a i 0) (getD b i 0) h)
 
-  pub same-turn : sameBytes a b ≡ sameBytes (drop i a) (drop i b) → length a ≡ length b → i < length a → getD a i 0 ≡ getD b i 0 → sameBytes a b ≡ sameBytes (drop (i + 1) a) (drop (i + 1) b)
+  pub same-turn : sameBytes a b ≡ sameBytes (drop i a) (drop i b) → length a ≡ length b → i < length a
+      → getD a i 0 ≡ getD b i 0 → sameBytes a b ≡ sameBytes (drop (i + 1) a) (drop (i + 1) b)
   same-turn e l p h = rw (e, same-at a b i p (omega arith), eq-eqb (getD a i 0) (getD b i 0) h)
 
   pub same-exit-end : sameBytes a b ≡ sameBytes (drop i a) (drop i b) → length a ≡ length b → length a ≤ i → true ≡ sameBytes a b

@@ -17,7 +17,8 @@ use Rattle.fields.specs.declared.Place.{Place}
 use Rattle.fields.specs.declared.Place.the-variants.{At, Short}
 
 -- a field is read at a place, from its length and its bytes
-field-read-at : (s : List ℕ) (p : ℕ) → p < length s → getD s p 0 ≤ length s - (p + 1) → readField (drop p s) ≡ field (take (getD s p 0) (drop (p + 1) s)) (drop (p + 1 + getD s p 0) s)
+field-read-at : (s : List ℕ) (p : ℕ) → p < length s → getD s p 0 ≤ length s - (p + 1)
+    → readField (drop p s) ≡ field (take (getD s p 0) (drop (p + 1) s)) (drop (p + 1 + getD s p 0) s)
 unfolding readField
 field-read-at s p hp hn =
     rw (drop-cons s p 0 hp, add-one) (simp (le-leb (getD s p 0) (length (drop (suc p) s)) (omega (arith, length-drop (suc p) s)), drop-drop))
@@ -43,7 +44,8 @@ pub record Placed (s : List ℕ) (p a e : ℕ) : Type 0 where
 pub placed : (s : List ℕ) (p a e : ℕ) (x : Place) → x ≡ fieldAt s p → x ≡ At a e → Placed s p a e
 placed s p a e x hx ha = go (ltb p (length s)) refl (leb (getD s p 0) (length s - (p + 1))) refl (sym ha ∙ hx)
   where
-    go : (b : Bool) → ltb p (length s) ≡ b → (d : Bool) → leb (getD s p 0) (length s - (p + 1)) ≡ d → At a e ≡ cond b (cond d (At (p + 1) (p + 1 + getD s p 0)) Short) Short → Placed s p a e
+    go : (b : Bool) → ltb p (length s) ≡ b → (d : Bool) → leb (getD s p 0) (length s - (p + 1)) ≡ d
+        → At a e ≡ cond b (cond d (At (p + 1) (p + 1 + getD s p 0)) Short) Short → Placed s p a e
     go true hb true hd h =
         let ea : a ≡ p + 1 = cc in
         let ee : e ≡ p + 1 + getD s p 0 = cc in
@@ -57,7 +59,8 @@ placed s p a e x hx ha = go (ltb p (length s)) refl (leb (getD s p 0) (length s 
 pub unplaced : (s : List ℕ) (p : ℕ) (x : Place) → x ≡ fieldAt s p → x ≡ Short → readField (drop p s) ≡ short
 unplaced s p x hx ha = go (ltb p (length s)) refl (leb (getD s p 0) (length s - (p + 1))) refl (sym ha ∙ hx)
   where
-    go : (b : Bool) → ltb p (length s) ≡ b → (d : Bool) → leb (getD s p 0) (length s - (p + 1)) ≡ d → Short ≡ cond b (cond d (At (p + 1) (p + 1 + getD s p 0)) Short) Short → readField (drop p s) ≡ short
+    go : (b : Bool) → ltb p (length s) ≡ b → (d : Bool) → leb (getD s p 0) (length s - (p + 1)) ≡ d
+        → Short ≡ cond b (cond d (At (p + 1) (p + 1 + getD s p 0)) Short) Short → readField (drop p s) ≡ short
     go true hb true hd h = absurd (let z : _≡_ {A = ℕ} 0 1 = cc in omega arith)
     go true hb false hd h = field-short-at s p (ltb-true p (length s) hb) (leb-false (getD s p 0) (length s - (p + 1)) hd)
     go false hb d hd h = field-none-at s p (ltb-false p (length s) hb)

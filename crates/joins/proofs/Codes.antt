@@ -1,33 +1,30 @@
 -- The answer rows of a join without a clash: their places stand on the two sides, and the merges behind their leaders succeed. Assumes nothing.
-use Prim.Native.Nat.{ℕ, zero, suc, _+_, _*_, _/_, _%_, _≤_, _<_}
+use Prim.Native.Nat.{ℕ, zero, suc, _+_, _≤_, _<_}
 use mathlib.Core.Path.{_≡_, refl, sym, ap, _∙_}
 use mathlib.Core.Bool.{Bool, true, false, cond}
-use mathlib.Core.Option.{none}
+use mathlib.Core.Option.{Option, none}
 use mathlib.Core.List.{List, [], _∷_, _++_}
 use native.Mathlib.Omega.{arith}
 use lib.Dec.{eqb}
 use lib.ListN.{length, getD, drop, length-drop}
 use lib.Seq.{drop-cons}
+use Rattle.model.specs.Limits.{maxSeries}
 use Rattle.model.specs.Lists.{All}
 use Rattle.model.specs.Labels.{Labels}
-use Rattle.model.specs.Query.{Query, Side}
-use Rattle.model.specs.Row.{twoOverlaps}
-use Rattle.plan.specs.Laws.Common.{both-none}
+use Rattle.model.specs.Query.{Side}
+use Rattle.semantics.specs.Events.{Duplicate}
 use Rattle.semantics.specs.Rules.{other}
-use Rattle.semantics.specs.Binop.{allowedOverlaps}
 use Rattle.plan.specs.Keys.{dropped}
 use Rattle.plan.specs.Pairs.{noLabels}
 use Rattle.plan.specs.Conclude.{orElse}
+use Rattle.plan.specs.Laws.Common.{both-none}
 use Rattle.plan.specs.Merging.{RowMerge, row, failedAt, mergeLead, rowOf, clash}
-use Rattle.plan.specs.Joins.{leadsOf, leadsClash, leadRows, rowCode, joinClash, joinRowsFrom}
-use Rattle.record_tags.specs.Lenient.{labelsOf}
-use Rattle.side_parts.specs.Sides.{recordAt, labelsIn}
-use Rattle.joins.proofs.lead_marks.Leaders.{leads-among-long}
-use Rattle.joins.proofs.lead_marks.Marking.{labels-long, labels-here}
-use Rattle.joins.specs.join_rows.Sides.{JoinLent, sidesOf}
+use Rattle.plan.specs.Joins.{JoinWork, editOf, leadsFor, ledClash, leadsClash, leadRows, rowCode, manyPlace, onePlace, joinClash, joinRowsFrom}
+use Rattle.side_parts.specs.Lent.{Sides, sideLabels, BothHeld}
 use Rattle.joins.specs.join_rows.Codes.{CodeIn}
-use Rattle.joins.proofs.join_plan.Planning.{two-overlaps}
-use Rattle.joins.specs.join_readings.Readings.{leadsAt, mergesAt}
+use Rattle.joins.specs.join_plan.Plans.{leadsAt}
+use Rattle.joins.proofs.lead_marks.Leaders.{leads-among-long}
+use Rattle.joins.proofs.lead_marks.Marking.{labels-long}
 
 -- lists
 
@@ -40,7 +37,11 @@ all-at P [] a i h = absurd (omega arith)
 all-at P (x ∷ xs) a zero h = a .0
 all-at P (x ∷ xs) a (suc i) h = all-at P xs (a .1) i (omega arith)
 
--- the first of two clashes, and the second
+pub heads : {A : Type 0} (x y : A) (xs ys : List A) → x ∷ xs ≡ y ∷ ys → x ≡ y
+heads x y xs ys h = cc
+
+pub tails : {A : Type 0} (x y : A) (xs ys : List A) → x ∷ xs ≡ y ∷ ys → xs ≡ ys
+tails x y xs ys h = cc
 
 -- merges without a clash succeed
 no-clash : (side : Side) (o : ℕ) (m : RowMerge) → clash side o m ≡ none → m ≡ row (rowOf m)
@@ -49,72 +50,79 @@ no-clash side o (failedAt i d) h = absurd (let z : _≡_ {A = ℕ} 0 1 = cc in o
 
 -- the places of a code
 
-code-many : (m o : ℕ) → o < 512 → (m * 512 + o) / 512 ≡ m
+code-many : (m o : ℕ) → o < maxSeries → manyPlace (rowCode m o) ≡ m
 code-many m o h = omega arith
 
-code-one : (m o : ℕ) → o < 512 → (m * 512 + o) % 512 ≡ o
+code-one : (m o : ℕ) → o < maxSeries → onePlace (rowCode m o) ≡ o
 code-one m o h = omega arith
 
--- a code of a join under q
-pub record Sound (q : Query) (p : ℕ) (ma mt mk a t k r : List ℕ) (x : ℕ) : Type 0 where
-  pub places : CodeIn mk k x
-  pub merge : mergesAt q p ma mt mk a t k r x ≡ row (rowOf (mergesAt q p ma mt mk a t k r x))
+-- what the merges behind a code's leader come to
+unfoldable pub mergesAt : JoinWork → Sides → ℕ → RowMerge
+mergesAt w s x = mergeLead (w .allowance) (s .shape .points) (s .right .rows) (leadsAt w s (manyPlace x)) (onePlace x)
 
-module _ (q : Query) (p : ℕ) (ma mt mk a t k r : List ℕ) (few : length k ≤ 512) (m : ℕ) (inside : m < length mk) where
+-- a code of a join
+pub record Sound (w : JoinWork) (s : Sides) (x : ℕ) : Type 0 where
+  pub places : CodeIn (s .left .keys) (s .right .keys) x
+  pub merge : mergesAt w s x ≡ row (rowOf (mergesAt w s x))
+
+module _ (w : JoinWork) (s : Sides) (few : length (s .right .keys) ≤ maxSeries) (m : ℕ) (inside : m < length (s .left .keys)) where
   abbrev leads : List ℕ
-  leads = leadsAt q ma mt mk a t k m
+  leads = leadsAt w s m
 
-  lead-sound : (o : ℕ) → o < length k → mergeLead twoOverlaps p r leads o ≡ row (rowOf (mergeLead twoOverlaps p r leads o)) → Sound q p ma mt mk a t k r (rowCode m o)
+  abbrev merges : ℕ → RowMerge
+  merges o = mergeLead (w .allowance) (s .shape .points) (s .right .rows) leads o
+
+  abbrev clashes : Side → ℕ → List ℕ → Option Duplicate
+  clashes side o rest = leadsClash (w .allowance) (s .shape .points) (s .right .rows) side leads o rest
+
+  lead-sound : (o : ℕ) → o < length (s .right .keys) → merges o ≡ row (rowOf (merges o)) → Sound w s (rowCode m o)
   unfolding mergesAt
   lead-sound o h e =
-      let dm : rowCode m o / 512 ≡ m = code-many m o (omega (arith, h, few)) in
-      let eo : rowCode m o % 512 ≡ o = code-one m o (omega (arith, h, few)) in
+      let dm : manyPlace (rowCode m o) ≡ m = code-many m o (omega (arith, h, few)) in
+      let eo : onePlace (rowCode m o) ≡ o = code-one m o (omega (arith, h, few)) in
       record { places = record { manyIn = rw dm inside; oneIn = rw eo h }; merge = rw (dm, eo) e }
 
   module _ (side : Side) where
-    leads-sound : (o : ℕ) (rest : List ℕ) → o + length rest ≡ length k → leadsClash twoOverlaps p r side leads o rest ≡ none → All (Sound q p ma mt mk a t k r) (leadRows m o rest)
+    leads-sound : (o : ℕ) (rest : List ℕ) → o + length rest ≡ length (s .right .keys) → clashes side o rest ≡ none → All (Sound w s) (leadRows m o rest)
     unfolding leadsClash leadRows
     leads-sound o [] e c = tt
     leads-sound o (x ∷ rest) e c = go (eqb x o) (leads-sound (suc o) rest (omega (arith, e))) c
       where
-        go : (b : Bool) → (leadsClash twoOverlaps p r side leads (suc o) rest ≡ none → All (Sound q p ma mt mk a t k r) (leadRows m (suc o) rest))
-            → orElse (cond b (clash side o (mergeLead twoOverlaps p r leads o)) none) (leadsClash twoOverlaps p r side leads (suc o) rest) ≡ none
-            → All (Sound q p ma mt mk a t k r) (cond b (rowCode m o ∷ leadRows m (suc o) rest) (leadRows m (suc o) rest))
-        go true ih h = (
-          lead-sound o (omega (arith, e)) (no-clash side o (mergeLead twoOverlaps p r leads o) (both-none (clash side o (mergeLead twoOverlaps p r leads o)) (leadsClash twoOverlaps p r side leads (suc o) rest) h .0)),
-          ih (both-none (clash side o (mergeLead twoOverlaps p r leads o)) (leadsClash twoOverlaps p r side leads (suc o) rest) h .1),
-        )
+        go : (b : Bool) → (clashes side (suc o) rest ≡ none → All (Sound w s) (leadRows m (suc o) rest))
+            → orElse (cond b (clash side o (merges o)) none) (clashes side (suc o) rest) ≡ none
+            → All (Sound w s) (cond b (rowCode m o ∷ leadRows m (suc o) rest) (leadRows m (suc o) rest))
+        go true ih h =
+            let both = both-none (clash side o (merges o)) (clashes side (suc o) rest) h in
+            (lead-sound o (omega (arith, e)) (no-clash side o (merges o) (both .0)), ih (both .1))
         go false ih h = ih h
 
 -- all rows of a join
 
-heads : {A : Type 0} (x y : A) (xs ys : List A) → x ∷ xs ≡ y ∷ ys → x ≡ y
-heads x y xs ys h = cc
+module _ (w : JoinWork) (many : Side) (s : Sides) (held : BothHeld s) where
+  abbrev mk : List ℕ
+  mk = s .left .keys
 
-tails : {A : Type 0} (x y : A) (xs ys : List A) → x ∷ xs ≡ y ∷ ys → xs ≡ ys
-tails x y xs ys h = cc
+  abbrev ml : List Labels
+  ml = sideLabels (s .left)
 
-module _ (q : Query) (many : Side) (p : ℕ) (ma mt mk mr a t k r : List ℕ) (lent : JoinLent p ma mt mk mr a t k r) where
-  abbrev P : ℕ → Type 0
-  P = Sound q p ma mt mk a t k r
-
-  place-sound : (m : ℕ) → m < length mk → leadsClash (allowedOverlaps q) p r (other many) (leadsAt q ma mt mk a t k m) 0 (leadsAt q ma mt mk a t k m) ≡ none → All P (leadRows m 0 (leadsAt q ma mt mk a t k m))
+  place-sound : (m : ℕ) → m < length mk → ledClash (w .allowance) (other many) s (leadsAt w s m) ≡ none → All (Sound w s) (leadRows m 0 (leadsAt w s m))
   place-sound m h c =
-      let e = leads-among-long q (labelsOf (recordAt ma mt m)) (getD mk m 0) k (labelsIn a t) k (labelsIn a t) (sym (labels-long a t k (lent .one .lent))) in
-      leads-sound q p ma mt mk a t k r (lent .one .lent .few) m h (other many) 0 (leadsAt q ma mt mk a t k m) (omega (arith, e)) (rw (two-overlaps q) at c)
+      let labels = labels-long (s .right .array) (s .right .at) (s .right .keys) (held .right .count) in
+      let e = leads-among-long (editOf w) (getD ml m noLabels) (getD mk m 0) (s .right .keys) (sideLabels (s .right)) (s .right .keys)
+      (sideLabels (s .right)) (sym labels) in
+      leads-sound w s (held .right .rows .few) m h (other many) 0 (leadsAt w s m) (omega (arith, e)) c
 
-  rows-from-sound : (m : ℕ) (ks : List ℕ) (ls : List Labels) → ks ≡ drop m mk → ls ≡ drop m (labelsIn ma mt)
-      → joinClash q many (sidesOf p ma mt mk mr a t k r) ks ls ≡ none → All P (joinRowsFrom q (sidesOf p ma mt mk mr a t k r) m ks ls)
+  rows-from-sound : (m : ℕ) (ks : List ℕ) (ls : List Labels) → ks ≡ drop m mk → ls ≡ drop m ml → joinClash w many s ks ls ≡ none
+      → All (Sound w s) (joinRowsFrom w s m ks ls)
   unfolding joinClash joinRowsFrom
   rows-from-sound m [] ls hk hl c = tt
   rows-from-sound m (x ∷ ks) [] hk hl c = tt
   rows-from-sound m (x ∷ ks) (l ∷ ls) hk hl c =
-      all-append P
-      (cond (eqb x dropped) [] (leadRows m 0 (leadsOf q l x k (labelsIn a t))))
-      (joinRowsFrom q (sidesOf p ma mt mk mr a t k r) (suc m) ks ls)
-      (here (eqb x dropped) (both-none _ (joinClash q many (sidesOf p ma mt mk mr a t k r) ks ls) c .0))
-      (rows-from-sound (suc m) ks ls (tails x (getD mk m 0) ks (drop (suc m) mk) key-cons) (tails l (getD (labelsIn ma mt) m noLabels) ls (drop (suc m) (labelsIn ma mt)) label-cons)
-      (both-none (cond (eqb x dropped) none (leadsClash (allowedOverlaps q) p r (other many) (leadsOf q l x k (labelsIn a t)) 0 (leadsOf q l x k (labelsIn a t)))) (joinClash q many (sidesOf p ma mt mk mr a t k r) ks ls) c .1))
+      let both = both-none (cond (eqb x dropped) none (ledClash (w .allowance) (other many) s (leadsFor w s l x))) (joinClash w many s ks ls) c in
+      all-append (Sound w s) (cond (eqb x dropped) [] (leadRows m 0 (leadsFor w s l x))) (joinRowsFrom w s (suc m) ks ls)
+      (here (eqb x dropped) (both .0))
+      (rows-from-sound (suc m) ks ls (tails x (getD mk m 0) ks (drop (suc m) mk) key-cons)
+      (tails l (getD ml m noLabels) ls (drop (suc m) ml) label-cons) (both .1))
     where
       inside : m < length mk
       inside = omega (arith, ap length hk, length-drop m mk)
@@ -122,17 +130,16 @@ module _ (q : Query) (many : Side) (p : ℕ) (ma mt mk mr a t k r : List ℕ) (l
       key-cons : x ∷ ks ≡ getD mk m 0 ∷ drop (suc m) mk
       key-cons = hk ∙ drop-cons mk m 0 inside
 
-      label-cons : l ∷ ls ≡ getD (labelsIn ma mt) m noLabels ∷ drop (suc m) (labelsIn ma mt)
-      label-cons = hl ∙ drop-cons (labelsIn ma mt) m noLabels (omega (arith, inside, labels-long ma mt mk (lent .many)))
+      label-cons : l ∷ ls ≡ getD ml m noLabels ∷ drop (suc m) ml
+      label-cons = hl ∙ drop-cons ml m noLabels (omega (arith, inside, labels-long (s .left .array) (s .left .at) mk (held .left .count)))
 
-      led : leadsOf q l x k (labelsIn a t) ≡ leadsAt q ma mt mk a t k m
-      led = rw (heads x (getD mk m 0) ks (drop (suc m) mk) key-cons, heads l (getD (labelsIn ma mt) m noLabels) ls (drop (suc m) (labelsIn ma mt)) label-cons, labels-here ma mt mk (lent .many) m inside)
+      led : leadsFor w s l x ≡ leadsAt w s m
+      led = rw (heads x (getD mk m 0) ks (drop (suc m) mk) key-cons, heads l (getD ml m noLabels) ls (drop (suc m) ml) label-cons)
 
-      here : (b : Bool) → cond b none (leadsClash (allowedOverlaps q) p r (other many) (leadsOf q l x k (labelsIn a t)) 0 (leadsOf q l x k (labelsIn a t))) ≡ none
-          → All P (cond b [] (leadRows m 0 (leadsOf q l x k (labelsIn a t))))
+      here : (b : Bool) → cond b none (ledClash (w .allowance) (other many) s (leadsFor w s l x)) ≡ none
+          → All (Sound w s) (cond b [] (leadRows m 0 (leadsFor w s l x)))
       here true h = tt
       here false h = rw led (place-sound m inside (rw led at h))
 
-  pub rows-sound : joinClash q many (sidesOf p ma mt mk mr a t k r) mk (labelsIn ma mt) ≡ none → (i : ℕ) → i < length (joinRowsFrom q (sidesOf p ma mt mk mr a t k r) 0 mk (labelsIn ma mt))
-      → Sound q p ma mt mk a t k r (getD (joinRowsFrom q (sidesOf p ma mt mk mr a t k r) 0 mk (labelsIn ma mt)) i 0)
-  rows-sound c i h = all-at P (joinRowsFrom q (sidesOf p ma mt mk mr a t k r) 0 mk (labelsIn ma mt)) (rows-from-sound 0 mk (labelsIn ma mt) refl refl c) i h
+  pub rows-sound : joinClash w many s mk ml ≡ none → (i : ℕ) → i < length (joinRowsFrom w s 0 mk ml) → Sound w s (getD (joinRowsFrom w s 0 mk ml) i 0)
+  rows-sound c i h = all-at (Sound w s) (joinRowsFrom w s 0 mk ml) (rows-from-sound 0 mk ml refl refl c) i h

@@ -1,3 +1,2 @@
-pub mod Leaders
 pub mod Widths
 pub mod Rows

@@ -1,40 +1,22 @@
--- What a join comes to and leaves in the output parts: its answer, by codes and whole. Assumes nothing.
-use Prim.Native.Nat.{ℕ, _*_, _≤_}
+-- What a join leaves in the output parts, by the codes and marks of its plan. Assumes nothing.
+use Prim.Native.Nat.{ℕ, _-_, _*_, _≤_, _<_}
 use mathlib.Core.Path.{_≡_}
 use mathlib.Core.Bool.{Bool, false, cond}
-use mathlib.Core.Option.{none}
 use mathlib.Core.List.{List, map}
-use lib.ListN.{length, take}
-use Rattle.model.specs.Limits.{maxSeries}
+use lib.ListN.{length, getD}
+use Rattle.model.specs.Lists.{gather}
 use Rattle.model.specs.Labels.{Labels}
-use Rattle.model.specs.Edits.{Names}
-use Rattle.model.specs.Query.{Query, Side, shouldResetMetricGroup}
-use Rattle.model.specs.Vector.{Shape}
+use Rattle.model.specs.Vector.{Series}
 use Rattle.semantics.specs.Call.{fit}
-use Rattle.plan.specs.Conclude.{conclude}
-use Rattle.plan.specs.Joins.{joinClash, joinRowsFrom, joinSeries}
-use Rattle.set_tags.specs.naming.Namings.{namingOf}
-use Rattle.side_parts.specs.Sides.{labelsIn}
+use Rattle.side_parts.specs.Lent.{Slices, lent, ofPoints}
 use Rattle.answers.specs.declared.Outcome.{Outcome}
 use Rattle.answers.specs.declared.Outcome.the-variants.{Answer, LeftTwice, RightTwice}
 use Rattle.answers.specs.Outcomes.{startingWith, Ran}
 use Rattle.answers.specs.Tallies.{recordsOf, someWide}
-use Rattle.end_codes.specs.Codes.{SideEnds}
-use Rattle.joins.specs.lead_marks.Lent.{ListedBy}
 use Rattle.joins.specs.declared.join_rows.Work.{Work}
-use Rattle.joins.specs.join_rows.Sides.{JoinLent, sidesOf}
-use Rattle.joins.specs.join_rows.Codes.{sideOf, rowLabels}
-use Rattle.joins.specs.join_readings.Readings.{RowsPut}
-
--- the work is the one of a query with these lists
-pub record WorkOf (q : Query) (join skip : Names) (w : Work) : Type 0 where
-  pub lists : ListedBy q join skip
-  pub operator : q .operator ≡ w .operator
-  pub bool : q .bool ≡ w .bool
-  pub naming : w .naming ≡ namingOf join skip (shouldResetMetricGroup q)
-
-abbrev pub pointsOf : ℕ → Shape
-pointsOf p = record { points = p }
+use Rattle.joins.specs.join_rows.Codes.{labelsBy}
+use Rattle.joins.specs.join_labels.Records.{RecordsIn}
+use Rattle.joins.specs.join_readings.Readings.{upTo, planRow, RowsThere}
 
 -- the records of codes are within the limits and within n bytes, and their rows within m readings
 pub record AnswerRoom (f : ℕ → Labels) (list : List ℕ) (p n m : ℕ) : Type 0 where
@@ -42,40 +24,39 @@ pub record AnswerRoom (f : ℕ → Labels) (list : List ℕ) (p n m : ℕ) : Typ
   pub records : length (recordsOf f list) ≤ n
   pub rows : length list * p ≤ m
 
--- the records and the readings of codes at the start of the output parts, and their sizes
-pub record AnswerPut (w : Work) (join skip : Names) (p : ℕ) (manyArray manyAt manyKeys manyRows array at keys rows list labels₀ out₀ labels out : List ℕ) (r : Outcome) : Type 0 where
-  pub outcome : r ≡ Answer (length list) p (length (recordsOf (rowLabels join skip (w .naming) manyArray manyAt array at) list))
-  pub labelPart : labels ≡ startingWith (recordsOf (rowLabels join skip (w .naming) manyArray manyAt array at) list) labels₀
-  pub readingPart : RowsPut w join skip p manyArray manyAt manyKeys manyRows array at keys rows list out₀ out
+-- the series of a side, of which there is one less than there are positions
+abbrev pub countOf : Slices → ℕ → ℕ
+countOf at i = length (lent at i) - 1
 
--- the answer series of codes, as they fit
-pub record Answered (w : Work) (join skip : Names) (p : ℕ) (manyArray manyAt manyKeys manyRows array at keys rows list labels₀ out₀ labels out : List ℕ) (r : Outcome) : Type 0 where
-  pub each : (q : Query) → WorkOf q join skip w
-      → Ran (fit (length labels₀) (length out₀) (pointsOf p) (map (joinSeries q (sideOf (w .left)) (sidesOf p manyArray manyAt manyKeys manyRows array at keys rows)) list)) labels₀ out₀ labels out r
+-- the records and the rows of a plan are there: those of its codes, with the marks of each
+pub record PlanHeld (p : ℕ) (labels at rows : Slices) (list marks : List ℕ) : Type 0 where
+  pub records : RecordsIn labels at list
+  pub some : 0 < length (lent at 1)
+  pub held : RowsThere p (lent rows 0) (lent rows 1) marks (countOf at 1) list
 
--- a join without a clash, whose n answer rows are at the start of the list if there are at most 512
-pub record RowsPlannedBy (q : Query) (many : Side) (p : ℕ) (manyArray manyAt manyKeys manyRows array at keys rows list : List ℕ) (n : ℕ) : Type 0 where
-  pub clash : joinClash q many (sidesOf p manyArray manyAt manyKeys manyRows array at keys rows) manyKeys (labelsIn manyArray manyAt) ≡ none
-  pub count : n ≡ length (joinRowsFrom q (sidesOf p manyArray manyAt manyKeys manyRows array at keys rows) 0 manyKeys (labelsIn manyArray manyAt))
-  pub listed : n ≤ maxSeries → take n list ≡ joinRowsFrom q (sidesOf p manyArray manyAt manyKeys manyRows array at keys rows) 0 manyKeys (labelsIn manyArray manyAt)
+-- the readings of row k of a plan
+abbrev pub rowsBy : Work → ℕ → Slices → Slices → List ℕ → List ℕ → ℕ → List ℕ
+rowsBy w p at rows list marks = planRow w p (lent rows 0) (lent rows 1) (countOf at 1) marks list
 
--- under each query with these lists, with the one-side ends of the many side's keys
-pub record RowsPlanned (join skip : Names) (p : ℕ) (manyArray manyAt manyKeys manyRows array at keys rows ends list : List ℕ) (n : ℕ) : Type 0 where
-  pub lent : JoinLent p manyArray manyAt manyKeys manyRows array at keys rows
-  pub known : SideEnds keys manyKeys ends
-  pub full : length list ≡ maxSeries
-  pub each : (q : Query) → ListedBy q join skip → (many : Side) → RowsPlannedBy q many p manyArray manyAt manyKeys manyRows array at keys rows list n
+-- the answer series k of a plan
+abbrev pub planSeries : Work → ℕ → Slices → Slices → Slices → Slices → List ℕ → List ℕ → ℕ → Series
+planSeries w p labels at rows lists list marks k = record {
+  labels = labelsBy (w .naming) labels at lists (getD list k 0);
+  row = rowsBy w p at rows list marks k;
+}
+
+-- the records and the readings of a plan at the start of the output parts, and their sizes
+pub record AnswerPut (w : Work) (p : ℕ) (labels at rows lists : Slices) (list marks labels₀ out₀ labels′ out : List ℕ) (r : Outcome) : Type 0 where
+  pub outcome : r ≡ Answer (length list) p (length (recordsOf (labelsBy (w .naming) labels at lists) list))
+  pub labelPart : labels′ ≡ startingWith (recordsOf (labelsBy (w .naming) labels at lists) list) labels₀
+  pub readingPart : out ≡ startingWith (gather (rowsBy w p at rows list marks) (upTo (length list))) out₀
+
+-- the answer series of a plan, as they fit
+pub record Answered (w : Work) (p : ℕ) (labels at rows lists : Slices) (list marks labels₀ out₀ labels′ out : List ℕ) (r : Outcome) : Type 0 where
+  pub ran : Ran
+      (fit (length labels₀) (length out₀) (ofPoints p) (map (planSeries w p labels at rows lists list marks) (upTo (length list))))
+      labels₀ out₀ labels′ out r
 
 -- 01: 7 left or 8 right duplicate. Of a join, on the one side.
 abbrev pub oneTwice : Bool → ℕ → ℕ → Outcome
 oneTwice left kept failed = cond left (RightTwice kept failed) (LeftTwice kept failed)
-
--- a join: its first clash, or its answer series as they fit
-pub record Joined (w : Work) (join skip : Names) (p : ℕ) (manyArray manyAt manyKeys manyRows array at keys rows labels₀ out₀ labels out : List ℕ) (r : Outcome) : Type 0 where
-  pub each : (q : Query) → WorkOf q join skip w
-      → Ran
-      (conclude (length labels₀) (length out₀) (pointsOf p)
-      (joinClash q (sideOf (w .left)) (sidesOf p manyArray manyAt manyKeys manyRows array at keys rows) manyKeys (labelsIn manyArray manyAt))
-      (map (joinSeries q (sideOf (w .left)) (sidesOf p manyArray manyAt manyKeys manyRows array at keys rows))
-      (joinRowsFrom q (sidesOf p manyArray manyAt manyKeys manyRows array at keys rows) 0 manyKeys (labelsIn manyArray manyAt))))
-      labels₀ out₀ labels out r

@@ -1,3 +1,5 @@
+pub mod Works
+pub mod Queries
 pub mod Joined
 pub mod lead_marks
 pub mod join_leads

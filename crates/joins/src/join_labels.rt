@@ -6,53 +6,46 @@ ghost use mathlib.Core.Path.{_≡_};
 ghost use mathlib.Core.Bool.{false};
 ghost use Prim.Native.Nat.{_≤_};
 ghost use lib.ListN.{length};
-ghost use Rattle.labels.specs.Names.{namesOf};
 ghost use Rattle.model.specs.Record.{encode};
 ghost use Rattle.writing.specs.Written.{Put};
 ghost use Rattle.answers.specs.Tallies.{SizedRecord, TallyOf, recordsOf, RecordsPut, someWide};
-ghost use Rattle.joins.specs.join_rows.Codes.{rowLabels};
-ghost use Rattle.joins.specs.join_labels.Records.{CodeRecords, RecordsIn, LabelRoom};
+ghost use Rattle.joins.specs.join_rows.Codes.{labelsBy};
+ghost use Rattle.joins.specs.join_labels.Records.{RecordsOf, RecordsIn, LabelRoom};
 
 // The size of a code's edited record.
-fn code_size<'a>(
-    many_array: &'a [u8],
-    many_at: &[usize],
-    array: &'a [u8],
-    at: &[usize],
+fn record_size(
     x: usize,
-    join: &[u8],
-    skip: &[u8],
+    labels: [&[u8]; 2],
+    at: [&[usize]; 2],
+    lists: [&[u8]; 2],
     naming: Naming,
 ) -> Size
-    requires held { ⌜ CodeRecords (now «many_array») (now «many_at») (now array) (now at) x ⌝ }
-    ensures { λ r. ⌜ SizedRecord (rowLabels (namesOf (now (join .entry))) (namesOf (now (skip .entry))) naming (now («many_array» .entry)) (now («many_at» .entry)) (now (array .entry)) (now (at .entry)) x) r ⌝ }
+    requires held { ⌜ RecordsOf labels at x ⌝ }
+    ensures { λ r. ⌜ SizedRecord (labelsBy naming (labels .entry) (at .entry) (lists .entry) x) r ⌝ }
 {
-    let rec = side_parts::record(many_array, many_at, x / 512);
-    let src = side_parts::record(array, at, x % 512);
-    set_tags::set_tags_size(rec, src, join, skip, naming)
+    let rec = side_parts::record(labels[0], at[0], row_marks::many_place(x));
+    let src = side_parts::record(labels[1], at[1], row_marks::one_place(x));
+    set_tags::set_tags_size(rec, src, lists[0], lists[1], naming)
 }
 
 // What the edited records of codes come to.
-pub(crate) fn tally_join<'a>(
-    many_array: &'a [u8],
-    many_at: &[usize],
-    array: &'a [u8],
-    at: &[usize],
+pub(crate) fn tally_join(
     list: &[usize],
-    join: &[u8],
-    skip: &[u8],
+    labels: [&[u8]; 2],
+    at: [&[usize]; 2],
+    lists: [&[u8]; 2],
     naming: Naming,
 ) -> Tally
-    requires held { ⌜ RecordsIn (now «many_array») (now «many_at») (now array) (now at) (now list) ⌝ }
-    ensures { λ r. ⌜ TallyOf (rowLabels (namesOf (now (join .entry))) (namesOf (now (skip .entry))) naming (now («many_array» .entry)) (now («many_at» .entry)) (now (array .entry)) (now (at .entry))) (now (list .entry)) r ⌝ }
+    requires held { ⌜ RecordsIn labels at (now list) ⌝ }
+    ensures { λ r. ⌜ TallyOf (labelsBy naming (labels .entry) (at .entry) (lists .entry)) (now (list .entry)) r ⌝ }
 {
     let mut t = Tally {
         bytes: 0,
-        wide: false,
+        too_many_tags: false,
     };
     let mut r: usize = 0;
     while r < list.len() {
-        let z = code_size(many_array, many_at, array, at, list[r], join, skip, naming);
+        let z = record_size(list[r], labels, at, lists, naming);
         t = answers::tallied(t, z);
         r += 1;
     }
@@ -60,59 +53,45 @@ pub(crate) fn tally_join<'a>(
 }
 
 // Writes a code's edited record, and gives the place behind it.
-fn put_code_labels<'a>(
-    many_array: &'a [u8],
-    many_at: &[usize],
-    array: &'a [u8],
-    at: &[usize],
+fn put_record(
     x: usize,
-    join: &[u8],
-    skip: &[u8],
+    labels: [&[u8]; 2],
+    at: [&[usize]; 2],
+    lists: [&[u8]; 2],
     naming: Naming,
     out: &mut [u8],
     o: usize,
 ) -> usize
-    requires held { ⌜ CodeRecords (now «many_array») (now «many_at») (now array) (now at) x ⌝ }
-    requires room { ⌜ LabelRoom (rowLabels (namesOf (now join)) (namesOf (now skip)) naming (now «many_array») (now «many_at») (now array) (now at) x) o (length (now out)) ⌝ }
-    ensures { λ r. ⌜ Put (now (out .entry)) o (encode (rowLabels (namesOf (now (join .entry))) (namesOf (now (skip .entry))) naming (now («many_array» .entry)) (now («many_at» .entry)) (now (array .entry)) (now (at .entry)) x)) (now (out .exit)) r ⌝ }
+    requires held { ⌜ RecordsOf labels at x ⌝ }
+    requires room { ⌜ LabelRoom (labelsBy naming labels at lists x) o (length (now out)) ⌝ }
+    ensures { λ r. ⌜ Put (now (out .entry)) o (encode (labelsBy naming (labels .entry) (at .entry) (lists .entry) x)) (now (out .exit)) r ⌝ }
 {
-    let rec = side_parts::record(many_array, many_at, x / 512);
-    let src = side_parts::record(array, at, x % 512);
-    set_tags::set_tags(out, o, rec, src, join, skip, naming)
+    let rec = side_parts::record(labels[0], at[0], row_marks::many_place(x));
+    let src = side_parts::record(labels[1], at[1], row_marks::one_place(x));
+    set_tags::set_tags(out, o, rec, src, lists[0], lists[1], naming)
 }
 
 // Writes the edited records of codes one behind another, and gives their bytes.
-pub(crate) fn put_join_labels<'a>(
-    many_array: &'a [u8],
-    many_at: &[usize],
-    array: &'a [u8],
-    at: &[usize],
+pub(crate) fn put_join_labels(
     list: &[usize],
-    join: &[u8],
-    skip: &[u8],
+    labels: [&[u8]; 2],
+    at: [&[usize]; 2],
+    lists: [&[u8]; 2],
     naming: Naming,
     out: &mut [u8],
 ) -> usize
-    requires held { ⌜ RecordsIn (now «many_array») (now «many_at») (now array) (now at) (now list) ⌝ }
-    requires narrow { ⌜ someWide (rowLabels (namesOf (now join)) (namesOf (now skip)) naming (now «many_array») (now «many_at») (now array) (now at)) (now list) ≡ false ⌝ }
-    requires room { ⌜ length (recordsOf (rowLabels (namesOf (now join)) (namesOf (now skip)) naming (now «many_array») (now «many_at») (now array) (now at)) (now list)) ≤ length (now out) ⌝ }
-    ensures { λ r. ⌜ RecordsPut (rowLabels (namesOf (now (join .entry))) (namesOf (now (skip .entry))) naming (now («many_array» .entry)) (now («many_at» .entry)) (now (array .entry)) (now (at .entry))) (now (list .entry)) (now (out .entry)) (now (out .exit)) r ⌝ }
+    requires held { ⌜ RecordsIn labels at (now list) ⌝ }
+    requires narrow { ⌜ someWide (labelsBy naming labels at lists) (now list) ≡ false ⌝ }
+    requires room { ⌜ length (recordsOf (labelsBy naming labels at lists) (now list)) ≤ length (now out) ⌝ }
+    ensures { λ r. ⌜
+        RecordsPut (labelsBy naming (labels .entry) (at .entry) (lists .entry)) (now (list .entry)) (now (out .entry))
+        (now (out .exit)) r
+        ⌝ }
 {
     let mut o: usize = 0;
     let mut r: usize = 0;
     while r < list.len() {
-        o = put_code_labels(
-            many_array,
-            many_at,
-            array,
-            at,
-            list[r],
-            join,
-            skip,
-            naming,
-            out,
-            o,
-        );
+        o = put_record(list[r], labels, at, lists, naming, out, o);
         r += 1;
     }
     o

@@ -5,7 +5,7 @@ ghost use Prim.Native.Nat.{_+_, _*_, _≤_, _<_};
 ghost use lib.ListN.{length};
 ghost use Rattle.plan.specs.Merging.{mergeLead};
 ghost use Rattle.plan.specs.Joins.{rowCode, leadRows};
-ghost use Rattle.noting.specs.Places.{NotedAll};
+ghost use Rattle.index_lists.specs.Places.{NotedAll};
 ghost use Rattle.joins.specs.join_leads.Checks.{TriedAs, ClashOf, CodesFit, RowFits};
 
 // The merges behind a leader, tried in a row of their own.
@@ -15,7 +15,7 @@ fn try_lead(rows: &[u64], p: usize, leads: &[usize], o: usize, allowance: usize)
     requires narrow { ⌜ p ≤ 1024 ⌝ }
     ensures { λ r. ⌜ TriedAs (mergeLead allowance p (now (rows .entry)) (now (leads .entry)) o) r ⌝ }
 {
-    if key_places::last_of(leads, o) == o {
+    if key_ends::last_of(leads, o) == o {
         return Merges::Done;
     }
     let mut work = [0u64; 1024];
@@ -51,12 +51,13 @@ pub(crate) fn check_leads(rows: &[u64], p: usize, leads: &[usize], allowance: us
     Checked::Done
 }
 
-// Notes the answer row of the many-side place m and the one-side place o behind the n before, and gives their number. A row that the list has no room for is only counted.
+// Notes the answer row of the many-side place m and the one-side place o behind the n before, and gives their number. A row that the list has no
+// room for is only counted.
 pub(crate) fn list_lead(m: usize, o: usize, n: usize, list: &mut [usize]) -> usize
     requires { ⌜ RowFits m o n ⌝ }
     ensures { λ r. ⌜ NotedAll (rowCode m o ∷ []) n (now (list .entry)) (now (list .exit)) r ⌝ }
 {
-    noting::note(list, n, m * 512 + o);
+    index_lists::note(list, n, row_marks::row_code(m, o));
     n + 1
 }
 
@@ -71,7 +72,7 @@ pub(crate) fn list_leads(leads: &[usize], m: usize, n: usize, list: &mut [usize]
         let o = i;
         i += 1;
         if leads[o] == o {
-            noting::note(list, r, m * 512 + o);
+            index_lists::note(list, r, row_marks::row_code(m, o));
             r += 1;
         }
     }

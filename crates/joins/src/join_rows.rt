@@ -2,24 +2,28 @@
 use operator::Operator;
 use set_tags::Naming;
 ghost use mathlib.Core.Path.{_≡_};
-ghost use Prim.Native.Nat.{_+_, _*_, _/_, _%_, _≤_, _<_};
+ghost use Prim.Native.Nat.{_*_, _≤_, _<_};
 ghost use lib.ListN.{length};
-ghost use Rattle.plan.specs.Merging.{rowAt};
-ghost use Rattle.joins.specs.join_rows.Written.{worked, leadRow, LeadMerges};
+ghost use Rattle.model.specs.Limits.{maxSeries};
+ghost use Rattle.side_parts.specs.Lent.{lent};
+ghost use Rattle.joins.specs.Works.{workedRow};
+ghost use Rattle.joins.specs.join_rows.Written.{markedRow, codeRow, RowHeld};
 
-// What is done with each pair of series: the operator, whether it gives 1 or 0; whether the many side is the left one; and who names the answer.
+// What is done with each pair of series: the operator, whether it gives 1 or 0; whether the many side is the left one; who names the answer; and
+// how many places may overlap in a merge.
 pub struct Work {
     pub operator: Operator,
     pub bool: bool,
     pub left: bool,
     pub naming: Naming,
+    pub allowance: usize,
 }
 
 // The operator on a many-side row and a one-side row: the left reading is the left operand on both sides.
 fn apply_join(w: Work, many: &[u64], one: &[u64], out: &mut [u64])
     requires { ⌜ length (now many) ≡ length (now out) ⌝ }
     requires { ⌜ length (now one) ≡ length (now out) ⌝ }
-    ensures { λ _. ⌜ now (out .exit) ≡ worked w (now (many .entry)) (now (one .entry)) ⌝ }
+    ensures { λ _. ⌜ now (out .exit) ≡ workedRow w (now (many .entry)) (now (one .entry)) ⌝ }
 {
     let operator = w.operator;
     if w.left {
@@ -29,62 +33,55 @@ fn apply_join(w: Work, many: &[u64], one: &[u64], out: &mut [u64])
     }
 }
 
-// The answer row of the row code x where nothing is merged: its many-side row and its one-side row go to the operator as they are.
-pub(crate) fn single_row(w: Work, x: usize, many_rows: &[u64], rows: &[u64], out: &mut [u64])
-    requires many { ⌜ x / 512 * length (now out) + length (now out) ≤ length (now «many_rows») ⌝ }
-    requires one { ⌜ x % 512 * length (now out) + length (now out) ≤ length (now rows) ⌝ }
-    ensures { λ _. ⌜ now (out .exit) ≡ worked w (rowAt (length (now (out .entry))) (now («many_rows» .entry)) (x / 512)) (rowAt (length (now (out .entry))) (now (rows .entry)) (x % 512)) ⌝ }
-{
-    let p = out.len();
-    let many = side_parts::row(many_rows, p, x / 512);
-    let one = side_parts::row(rows, p, x % 512);
-    apply_join(w, many, one, out);
-}
-
-// The one side's rows merged behind the leader o in a work row, and the operator applied.
+// The one-side row o, with those merged into it in a work row that are marked behind it, and the operator applied.
 fn merged_row(
     w: Work,
     many: &[u64],
     rows: &[u64],
-    leads: &[usize],
+    marks: &[usize],
+    count: usize,
     o: usize,
     work: &mut [u64],
     out: &mut [u64],
 )
-    requires inside { ⌜ o < length (now leads) ⌝ }
-    requires held { ⌜ length (now leads) * length (now out) ≤ length (now rows) ⌝ }
+    requires inside { ⌜ o < count ⌝ }
+    requires few { ⌜ count ≤ maxSeries ⌝ }
+    requires eight { ⌜ 8 ≤ length (now marks) ⌝ }
+    requires held { ⌜ count * length (now out) ≤ length (now rows) ⌝ }
     requires wide { ⌜ length (now many) ≡ length (now out) ⌝ }
     requires room { ⌜ length (now work) ≡ length (now out) ⌝ }
-    requires merges { ⌜ LeadMerges (length (now out)) (now rows) (now leads) o ⌝ }
-    ensures { λ _. ⌜ now (work .exit) ≡ leadRow (length (now (out .entry))) (now (rows .entry)) (now (leads .entry)) o ⌝ }
-    ensures { λ _. ⌜ now (out .exit) ≡ worked w (now (many .entry)) (leadRow (length (now (out .entry))) (now (rows .entry)) (now (leads .entry)) o) ⌝ }
+    ensures { λ _. ⌜ now (work .exit) ≡ markedRow (w .allowance) (length (now (out .entry))) (now (rows .entry)) count (now (marks .entry)) o ⌝ }
+    ensures { λ _. ⌜ now (out .exit)
+        ≡ workedRow w (now (many .entry)) (markedRow (w .allowance) (length (now (out .entry))) (now (rows .entry)) count (now (marks .entry)) o) ⌝ }
 {
-    merging::merge_lead(rows, leads, o, merge::ALLOWED_OVERLAPS, work);
+    merging::merge_marked(rows, marks, o, count, w.allowance, work);
     apply_join(w, many, work, out);
 }
 
-// The answer row of a leader whose merges succeed. One without others behind it goes to the operator as it is.
-pub(crate) fn lead_row(
+// The answer row of the row code x: its one-side row, of `count` rows, with those merged into it that are marked behind it. One without marks goes
+// to the operator as it is.
+pub(crate) fn put_row(
     w: Work,
-    many: &[u64],
-    rows: &[u64],
-    leads: &[usize],
-    o: usize,
+    x: usize,
+    marks: &[usize],
+    count: usize,
+    rows: [&[u64]; 2],
     out: &mut [u64],
 )
-    requires inside { ⌜ o < length (now leads) ⌝ }
-    requires held { ⌜ length (now leads) * length (now out) ≤ length (now rows) ⌝ }
-    requires wide { ⌜ length (now many) ≡ length (now out) ⌝ }
-    requires narrow { ⌜ length (now out) ≤ 1024 ⌝ }
-    requires merges { ⌜ LeadMerges (length (now out)) (now rows) (now leads) o ⌝ }
-    ensures { λ _. ⌜ now (out .exit) ≡ worked w (now (many .entry)) (leadRow (length (now (out .entry))) (now (rows .entry)) (now (leads .entry)) o) ⌝ }
+    requires held { ⌜ RowHeld (length (now out)) (lent rows 0) (lent rows 1) count x ⌝ }
+    requires eight { ⌜ 8 ≤ length (now marks) ⌝ }
+    ensures { λ _. ⌜
+        now (out .exit) ≡ codeRow w (length (now (out .entry))) (lent (rows .entry) 0) (lent (rows .entry) 1) count
+        (now (marks .entry)) x
+        ⌝ }
 {
     let p = out.len();
-    let last = key_places::last_of(leads, o);
-    if last == o {
-        apply_join(w, many, side_parts::row(rows, p, o), out);
+    let o = row_marks::one_place(x);
+    let many = side_parts::row(rows[0], p, row_marks::many_place(x));
+    if row_marks::none_marked(marks) {
+        apply_join(w, many, side_parts::row(rows[1], p, o), out);
         return;
     }
     let mut work = [0u64; 1024];
-    merged_row(w, many, rows, leads, o, &mut work[..p], out);
+    merged_row(w, many, rows[1], marks, count, o, &mut work[..p], out);
 }

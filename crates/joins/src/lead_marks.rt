@@ -2,12 +2,12 @@
 ghost use mathlib.Core.Path.{_≡_};
 ghost use Prim.Native.Nat.{_+_, _≤_, _<_};
 ghost use lib.ListN.{length};
-ghost use Rattle.model.specs.Labels.{WellFormed};
+ghost use Rattle.model.specs.Limits.{maxSeries};
 ghost use Rattle.labels.specs.Names.{namesOf};
-ghost use Rattle.record_tags.specs.Lenient.{labelsOf};
 ghost use Rattle.side_parts.specs.Sides.{Positions};
-ghost use Rattle.joins.specs.lead_marks.Lent.{Lent};
-ghost use Rattle.joins.specs.lead_marks.Marks.{Marked, LeadFound, editedHash};
+ghost use Rattle.side_parts.specs.Lent.{RecordsHeld};
+ghost use Rattle.joins.specs.join_plan.Plans.{leadsIn};
+ghost use Rattle.joins.specs.lead_marks.Marks.{LeadFound, editedHash};
 
 // The first leader before a place that gives the same edited tags, or the place. The hashes only spare comparisons.
 fn find_lead<'a>(
@@ -26,7 +26,8 @@ fn find_lead<'a>(
     requires { ⌜ o ≤ length (now leads) ⌝ }
     requires { ⌜ o ≤ length (now hashes) ⌝ }
     requires { ⌜ h ≡ editedHash (namesOf (now join)) (namesOf (now skip)) (now many) (now array) (now at) o ⌝ }
-    ensures { λ r. ⌜ LeadFound (namesOf (now (join .entry))) (namesOf (now (skip .entry))) (now (many .entry)) (now (array .entry)) (now (at .entry)) (now (leads .entry)) (now (hashes .entry)) o r ⌝ }
+    ensures { λ r. ⌜ LeadFound (namesOf (now (join .entry))) (namesOf (now (skip .entry))) (now (many .entry)) (now (array .entry)) (now (at .entry))
+        (now (leads .entry)) (now (hashes .entry)) o r ⌝ }
 {
     let rec = side_parts::record(array, at, o);
     let mut n: usize = 0;
@@ -55,10 +56,12 @@ pub(crate) fn mark_leads<'a>(
     skip: &[u8],
     leads: &mut [usize],
 )
-    requires formed { ⌜ WellFormed (labelsOf (now many)) ⌝ }
-    requires lent { ⌜ Lent (now array) (now at) (now keys) ⌝ }
+    requires records { ⌜ RecordsHeld (now array) (now at) ⌝ }
+    requires count { ⌜ length (now at) ≡ length (now keys) + 1 ⌝ }
+    requires few { ⌜ length (now keys) ≤ maxSeries ⌝ }
     requires long { ⌜ length (now leads) ≡ length (now keys) ⌝ }
-    ensures { λ _. ⌜ Marked (namesOf (now (join .entry))) (namesOf (now (skip .entry))) (now (many .entry)) k (now (array .entry)) (now (at .entry)) (now (keys .entry)) (now (leads .exit)) ⌝ }
+    ensures { λ _. ⌜ now (leads .exit) ≡ leadsIn (namesOf (now (join .entry))) (namesOf (now (skip .entry))) (now (many .entry)) k
+        (now (array .entry)) (now (at .entry)) (now (keys .entry)) ⌝ }
 {
     let mut hashes = [0u64; 512];
     let mut i: usize = 0;
@@ -70,7 +73,7 @@ pub(crate) fn mark_leads<'a>(
             leads[o] = find_lead(many, array, at, leads, &hashes, o, h, join, skip);
             hashes[o] = h;
         } else {
-            leads[o] = key_places::DROPPED;
+            leads[o] = key_ends::DROPPED;
         }
     }
 }

@@ -22,11 +22,14 @@ no-tags = refl
 pub record PutLeft (f : List Tag → List Tag) (s : List ℕ) (n p : ℕ) (d₀ : List ℕ) (at : ℕ) (all d : List ℕ) (o : ℕ) : Type 0 where
   pub rest : Rest d₀ at all d o (encodeTags (f (tagsUpTo n (drop p s))))
 
-pub put-start : (f : List Tag → List Tag) (s : List ℕ) (n p : ℕ) (d : List ℕ) (at : ℕ) → tagsUpTo n (drop p s) ≡ labelsOf s .tags → at + length (encodeTags (f (labelsOf s .tags))) ≤ length d → PutLeft f s n p d at (encodeTags (f (labelsOf s .tags))) d at
+pub put-start : (f : List Tag → List Tag) (s : List ℕ) (n p : ℕ) (d : List ℕ) (at : ℕ)
+    → tagsUpTo n (drop p s) ≡ labelsOf s .tags → at + length (encodeTags (f (labelsOf s .tags))) ≤ length d
+    → PutLeft f s n p d at (encodeTags (f (labelsOf s .tags))) d at
 put-start f s n p d at h room =
     record { rest = rw h (rest-start d at (encodeTags (f (labelsOf s .tags))) room) }
 
-module _ (f : List Tag → List Tag) (s : List ℕ) (n p : ℕ) (d₀ : List ℕ) (at : ℕ) (all d : List ℕ) (o : ℕ) (inv : PutLeft f s n p d₀ at all d o) (x : Next) (hx : NextAt f s n p x) where
+module _ (f : List Tag → List Tag) (s : List ℕ) (n p : ℕ) (d₀ : List ℕ) (at : ℕ) (all d : List ℕ) (o : ℕ)
+    (inv : PutLeft f s n p d₀ at all d o) (x : Next) (hx : NextAt f s n p x) where
   pub put-ended : x ≡ N.End → Put d₀ at all d o
   put-ended ex = rest-done d₀ at all d o (rw (next-ended f s n p x hx ex, no-tags) at (inv .rest))
 

@@ -51,11 +51,13 @@ unfolding tagsUpTo
 tags-few zero s = omega arith
 tags-few (suc n) s = go (tags-few n) (readField s)
   where
-    valued : ((s : List ℕ) → length (tagsUpTo n s) ≤ n) → (k : List ℕ) (g : Field) → length (onField g [] (λ v s₂. record { key = k; value = v } ∷ tagsUpTo n s₂)) ≤ suc n
+    valued : ((s : List ℕ) → length (tagsUpTo n s) ≤ n) → (k : List ℕ) (g : Field)
+        → length (onField g [] (λ v s₂. record { key = k; value = v } ∷ tagsUpTo n s₂)) ≤ suc n
     valued ih k short = omega arith
     valued ih k (field v s₂) = omega (arith, ih s₂)
 
-    go : ((s : List ℕ) → length (tagsUpTo n s) ≤ n) → (g : Field) → length (onField g [] (λ k s₁. onField (readField s₁) [] (λ v s₂. record { key = k; value = v } ∷ tagsUpTo n s₂))) ≤ suc n
+    go : ((s : List ℕ) → length (tagsUpTo n s) ≤ n) → (g : Field)
+        → length (onField g [] (λ k s₁. onField (readField s₁) [] (λ v s₂. record { key = k; value = v } ∷ tagsUpTo n s₂))) ≤ suc n
     go ih short = omega arith
     go ih (field k s₁) = valued ih k (readField s₁)
 
@@ -71,7 +73,8 @@ tags-short (suc n) s = go (tags-short n) (readField s) refl
     Fewer : Type 0
     Fewer = (s : List ℕ) → length (encodeTags (tagsUpTo n s)) ≤ length s
 
-    valued : Fewer → (k s₁ : List ℕ) → s ≡ encodeField k ++ s₁ → (g : Field) → readField s₁ ≡ g → length (encodeTags (onField g [] (λ v s₂. record { key = k; value = v } ∷ tagsUpTo n s₂))) ≤ length s
+    valued : Fewer → (k s₁ : List ℕ) → s ≡ encodeField k ++ s₁ → (g : Field) → readField s₁ ≡ g
+        → length (encodeTags (onField g [] (λ v s₂. record { key = k; value = v } ∷ tagsUpTo n s₂))) ≤ length s
     valued ih k s₁ hk short h = omega (arith, no-bytes)
     valued ih k s₁ hk (field v s₂) h =
         omega (
@@ -85,7 +88,8 @@ tags-short (suc n) s = go (tags-short n) (readField s) refl
           ih s₂,
         )
 
-    go : Fewer → (g : Field) → readField s ≡ g → length (encodeTags (onField g [] (λ k s₁. onField (readField s₁) [] (λ v s₂. record { key = k; value = v } ∷ tagsUpTo n s₂)))) ≤ length s
+    go : Fewer → (g : Field) → readField s ≡ g
+        → length (encodeTags (onField g [] (λ k s₁. onField (readField s₁) [] (λ v s₂. record { key = k; value = v } ∷ tagsUpTo n s₂)))) ≤ length s
     go ih short h = omega (arith, no-bytes)
     go ih (field k s₁) h = valued ih k s₁ (field-read s k s₁ h) (readField s₁) refl
 
@@ -100,7 +104,8 @@ labels-short s = go (readField s) refl
     counted x (n ∷ s₁) h =
         omega (arith, length-labels (record { name = x; tags = tagsUpTo n s₁ }), tags-short n s₁, ap length h, length-append (encodeField x) (n ∷ s₁))
 
-    go : (g : Field) → readField s ≡ g → length (encode (onField g (record { name = []; tags = [] }) (λ x rest. record { name = x; tags = tagsCounted rest }))) ≤ length s + 2
+    go : (g : Field) → readField s ≡ g
+        → length (encode (onField g (record { name = []; tags = [] }) (λ x rest. record { name = x; tags = tagsCounted rest }))) ≤ length s + 2
     go short h = omega (arith, length-labels (record { name = []; tags = [] }), no-bytes)
     go (field x s₁) h = counted x s₁ (field-read s x s₁ h)
 
@@ -113,10 +118,12 @@ module _ (s : List ℕ) (b : (j : ℕ) → Fits w8 (getD s j 0)) where
       counted : (x s₁ : List ℕ) → s ≡ encodeField x ++ s₁ → length (tagsCounted s₁) ≤ 255
       counted x [] h = omega arith
       counted x (n ∷ s₁) h =
-          let at : getD s (length (encodeField x) + 0) 0 ≡ n = ap (λ (l : List ℕ). getD l (length (encodeField x) + 0) 0) h ∙ getD-append-add (encodeField x) (n ∷ s₁) 0 0 in
+          let at : getD s (length (encodeField x) + 0) 0 ≡ n = ap (λ (l : List ℕ). getD l (length (encodeField x) + 0) 0) h
+          ∙ getD-append-add (encodeField x) (n ∷ s₁) 0 0 in
           omega (arith, tags-few n s₁, at, b (length (encodeField x) + 0))
 
-      go : (g : Field) → readField s ≡ g → length (onField {A = Labels} g (record { name = []; tags = [] }) (λ x rest. record { name = x; tags = tagsCounted rest }) .tags) ≤ 255
+      go : (g : Field) → readField s ≡ g
+          → length (onField {A = Labels} g (record { name = []; tags = [] }) (λ x rest. record { name = x; tags = tagsCounted rest }) .tags) ≤ 255
       go short h = omega arith
       go (field x s₁) h = counted x s₁ (field-read s x s₁ h)
 
@@ -132,14 +139,21 @@ module _ (s : List ℕ) (b : (j : ℕ) → Fits w8 (getD s j 0)) where
       counted x (n ∷ s₁) h =
           omega (arith, length-labels (record { name = x; tags = tagsUpTo n s₁ }), tags-short n s₁, ap length h, length-append (encodeField x) (n ∷ s₁))
 
-      go : (g : Field) → readField s ≡ g → length (encode (onField g (record { name = []; tags = [] }) (λ x rest. record { name = x; tags = tagsCounted rest }))) < 2 ^ 64
+      go : (g : Field) → readField s ≡ g
+          → length (encode (onField g (record { name = []; tags = [] }) (λ x rest. record { name = x; tags = tagsCounted rest }))) < 2 ^ 64
       go short h = omega (arith, length-labels (record { name = []; tags = [] }), no-bytes)
       go (field x s₁) h = counted x s₁ (field-read s x s₁ h)
 
 -- an edit by a matching makes a record no longer
 pub kept-short : (m : Matching) (ns : Names) (keepName : Bool) (l : Labels) → length (encode (kept m ns keepName l)) ≤ length (encode l)
 kept-short m ns keepName l =
-    omega (arith, length-labels l, length-labels (kept m ns keepName l), name-short keepName (l .name), chosen-short (isChosen m ns) (keyOf m ns) (key-sieve m ns) (l .tags))
+    omega (
+      arith,
+      length-labels l,
+      length-labels (kept m ns keepName l),
+      name-short keepName (l .name),
+      chosen-short (isChosen m ns) (keyOf m ns) (key-sieve m ns) (l .tags),
+    )
   where
     name-short : (b : Bool) (x : List ℕ) → length (encodeField (cond b x [])) ≤ length (encodeField x)
     name-short true x = omega arith
@@ -152,7 +166,8 @@ pub record TallyLeft (f : List Tag → List Tag) (s : List ℕ) (n p tags bytes 
   pub few : length all ≤ 255
   pub fewBytes : length (encodeTags all) ≤ length s
 
-pub tally-start : (test : List ℕ → Bool) (f : List Tag → List Tag) → Sieve test f → (s : List ℕ) (n p : ℕ) → tagsUpTo n (drop p s) ≡ labelsOf s .tags → n ≤ 255 → TallyLeft f s n p 0 0 (f (labelsOf s .tags))
+pub tally-start : (test : List ℕ → Bool) (f : List Tag → List Tag) → Sieve test f → (s : List ℕ) (n p : ℕ)
+    → tagsUpTo n (drop p s) ≡ labelsOf s .tags → n ≤ 255 → TallyLeft f s n p 0 0 (f (labelsOf s .tags))
 tally-start test f v s n p h few =
     rw (← h) (record {
       tagsAsked = omega arith;
@@ -161,7 +176,8 @@ tally-start test f v s n p h few =
       fewBytes = omega (arith, chosen-short test f v (tagsUpTo n (drop p s)), tags-short n (drop p s), length-drop p s);
     })
 
-module _ (f : List Tag → List Tag) (s : List ℕ) (n p tags bytes : ℕ) (all : List Tag) (inv : TallyLeft f s n p tags bytes all) (x : Next) (hx : NextAt f s n p x) where
+module _ (f : List Tag → List Tag) (s : List ℕ) (n p tags bytes : ℕ) (all : List Tag) (inv : TallyLeft f s n p tags bytes all)
+    (x : Next) (hx : NextAt f s n p x) where
   pub tally-done : x ≡ N.End → TagsSized all (record { tags = tags; bytes = bytes })
   tally-done ex =
       let none : f (tagsUpTo n (drop p s)) ≡ [] = next-ended f s n p x hx ex in
@@ -198,14 +214,16 @@ module _ (f : List Tag → List Tag) (s : List ℕ) (n p tags bytes : ℕ) (all 
     tally-bytes-fit g = omega (arith, tally-one .bytesAsked, inv .fewBytes)
 
 -- `kept_size`: the name's bytes n, the count, and the tags' bytes k
-module _ (keepName : Bool) (s : List ℕ) (b : (j : ℕ) → Fits w8 (getD s j 0)) (room : length s < 2 ^ 64) (n : ℕ) (hn : n ≡ length (encodeField (cond keepName (labelsOf s .name) []))) where
+module _ (keepName : Bool) (s : List ℕ) (b : (j : ℕ) → Fits w8 (getD s j 0)) (room : length s < 2 ^ 64) (n : ℕ)
+    (hn : n ≡ length (encodeField (cond keepName (labelsOf s .name) []))) where
   kept-fit : (m : Matching) (ns : Names) → length (encode (kept m ns keepName (labelsOf s))) < 2 ^ 64
   kept-fit m ns = omega (arith, kept-short m ns keepName (labelsOf s), labels-fit s b room)
 
   pub kept-name-fit : (m : Matching) (ns : Names) (k : ℕ) → k ≡ length (encodeTags (keyOf m ns (labelsOf s .tags))) → Fits w64 (n + 1)
   kept-name-fit m ns k hk = omega (arith, kept-fit m ns, length-labels (kept m ns keepName (labelsOf s)))
 
-  module _ (m : Matching) (ns : Names) (t k : ℕ) (ht : t ≡ length (keyOf m ns (labelsOf s .tags))) (hk : k ≡ length (encodeTags (keyOf m ns (labelsOf s .tags)))) where
+  module _ (m : Matching) (ns : Names) (t k : ℕ) (ht : t ≡ length (keyOf m ns (labelsOf s .tags)))
+      (hk : k ≡ length (encodeTags (keyOf m ns (labelsOf s .tags)))) where
     kept-size : n + 1 + k ≡ length (encode (kept m ns keepName (labelsOf s)))
     kept-size = omega (arith, length-labels (kept m ns keepName (labelsOf s)))
 

@@ -47,7 +47,10 @@ fn chosen_size(rec: &[u8], matching: Matching, list: &[u8]) -> Size
 // Writes the tags of a record's key.
 fn put_chosen(out: &mut [u8], at: usize, rec: &[u8], matching: Matching, list: &[u8]) -> usize
     requires { ⌜ at + length (encodeTags (recordKey (matchingOf matching) (now list) (now rec))) ≤ length (now out) ⌝ }
-    ensures { λ r. ⌜ Put (now (out .entry)) at (encodeTags (recordKey (matchingOf matching) (now (list .entry)) (now (rec .entry)))) (now (out .exit)) r ⌝ }
+    ensures { λ r. ⌜
+        Put (now (out .entry)) at (encodeTags (recordKey (matchingOf matching) (now (list .entry)) (now (rec .entry))))
+        (now (out .exit)) r
+        ⌝ }
 {
     let t = record_tags::tags_of(rec);
     let mut p = t.at;
@@ -92,7 +95,9 @@ pub fn put_kept(
     keep_name: bool,
 ) -> usize
     requires { ⌜ at + length (encode (kept (matchingOf matching) (namesOf (now list)) «keep_name» (labelsOf (now rec)))) ≤ length (now out) ⌝ }
-    ensures { λ r. ⌜ Put (now (out .entry)) at (encode (kept (matchingOf matching) (namesOf (now (list .entry))) «keep_name» (labelsOf (now (rec .entry))))) (now (out .exit)) r ⌝ }
+    ensures { λ r. ⌜ Put (now (out .entry)) at
+        (encode (kept (matchingOf matching) (namesOf (now (list .entry))) «keep_name» (labelsOf (now (rec .entry)))))
+        (now (out .exit)) r ⌝ }
 {
     let s = chosen_size(rec, matching, list);
     let n = s.tags;

@@ -1,10 +1,24 @@
 // The first and the last places of keys on two sides, found in linear time by tables of key numbers.
+mod end_codes; // the first and the last places of a key in one number, read off it
+mod key_places; // the first and the last place of a key, by a search
+
+pub use end_codes::left_first;
+pub use end_codes::left_last;
+pub use end_codes::right_first;
+pub use end_codes::right_last;
+pub use end_codes::side_first;
+pub use end_codes::side_last;
+pub use key_places::first_of;
+pub use key_places::last_of;
 ghost use mathlib.Core.Path.{_≡_};
 ghost use Prim.Native.Nat.{_+_, _*_, _≤_, _<_};
 ghost use lib.ListN.{length};
 ghost use Rattle.plan.specs.Keys.{firstOf, lastOf};
-ghost use Rattle.end_codes.specs.Codes.{endsCode, SideEnds, PairEnds};
+ghost use Rattle.key_ends.specs.end_codes.Codes.{endsCode, SideEnds, SideEndsPut, PairEndsPut};
 ghost use Rattle.key_ends.specs.Tables.{noted, Table};
+
+// The key number of a series that takes no part.
+pub const DROPPED: usize = 1024;
 
 // Notes a place in the table at a key's number; a number that the table has no room for is not noted.
 fn note(table: &mut [usize], k: usize, i: usize)
@@ -68,7 +82,7 @@ fn ends_at(keys: &[usize], firsts: &[usize], lasts: &[usize], k: usize) -> usize
     requires { ⌜ Table (lastOf (now keys)) (now lasts) ⌝ }
     ensures { λ r. ⌜ r ≡ endsCode (now (keys .entry)) k ⌝ }
 {
-    first_at(keys, firsts, k) * 1024 + last_at(keys, lasts, k)
+    end_codes::side_code(first_at(keys, firsts, k), last_at(keys, lasts, k))
 }
 
 // The places of each key that is asked for.
@@ -77,7 +91,7 @@ fn put_ends(keys: &[usize], firsts: &[usize], lasts: &[usize], asked: &[usize], 
     requires { ⌜ Table (firstOf (now keys)) (now firsts) ⌝ }
     requires { ⌜ Table (lastOf (now keys)) (now lasts) ⌝ }
     requires { ⌜ length (now asked) ≤ length (now ends) ⌝ }
-    ensures { λ _. ⌜ SideEnds (now (keys .entry)) (now (asked .entry)) (now (ends .exit)) ⌝ }
+    ensures { λ _. ⌜ SideEndsPut (now (keys .entry)) (now (asked .entry)) (now (ends .entry)) (now (ends .exit)) ⌝ }
 {
     let mut i: usize = 0;
     while i < asked.len() {
@@ -90,7 +104,7 @@ fn put_ends(keys: &[usize], firsts: &[usize], lasts: &[usize], asked: &[usize], 
 pub fn side_ends(keys: &[usize], asked: &[usize], ends: &mut [usize])
     requires { ⌜ length (now keys) ≤ 512 ⌝ }
     requires { ⌜ length (now asked) ≤ length (now ends) ⌝ }
-    ensures { λ _. ⌜ SideEnds (now (keys .entry)) (now (asked .entry)) (now (ends .exit)) ⌝ }
+    ensures { λ _. ⌜ SideEndsPut (now (keys .entry)) (now (asked .entry)) (now (ends .entry)) (now (ends .exit)) ⌝ }
 {
     let mut firsts = [keys.len(); 1024];
     let mut lasts = [keys.len(); 1024];
@@ -105,11 +119,11 @@ fn join_ends(lkeys: &[usize], rkeys: &[usize], right: &[usize], ends: &mut [usiz
     requires { ⌜ length (now rkeys) ≤ 512 ⌝ }
     requires { ⌜ SideEnds (now rkeys) (now lkeys) (now right) ⌝ }
     requires { ⌜ SideEnds (now lkeys) (now lkeys) (now ends) ⌝ }
-    ensures { λ _. ⌜ PairEnds (now (lkeys .entry)) (now (rkeys .entry)) (now (ends .exit)) ⌝ }
+    ensures { λ _. ⌜ PairEndsPut (now (lkeys .entry)) (now (rkeys .entry)) (now (ends .entry)) (now (ends .exit)) ⌝ }
 {
     let mut i: usize = 0;
     while i < lkeys.len() {
-        ends[i] = ends[i] * 1048576 + right[i];
+        ends[i] = end_codes::both_code(ends[i], right[i]);
         i += 1;
     }
 }
@@ -119,7 +133,7 @@ pub fn pair_ends(lkeys: &[usize], rkeys: &[usize], ends: &mut [usize])
     requires { ⌜ length (now lkeys) ≤ 512 ⌝ }
     requires { ⌜ length (now rkeys) ≤ 512 ⌝ }
     requires { ⌜ length (now lkeys) ≤ length (now ends) ⌝ }
-    ensures { λ _. ⌜ PairEnds (now (lkeys .entry)) (now (rkeys .entry)) (now (ends .exit)) ⌝ }
+    ensures { λ _. ⌜ PairEndsPut (now (lkeys .entry)) (now (rkeys .entry)) (now (ends .entry)) (now (ends .exit)) ⌝ }
 {
     let mut right = [0usize; 512];
     side_ends(lkeys, lkeys, ends);

@@ -1,4 +1,6 @@
 // The keys of two vectors, numbered by their first places, in expected linear time by a table of hashes.
+mod key_lookup; // the number of one record's key
+
 use labels::Matching;
 ghost use mathlib.Core.Path.{_≡_};
 ghost use Prim.Native.Nat.{_+_, _<_};
@@ -7,8 +9,9 @@ ghost use lib.ListN.{length};
 ghost use Rattle.labels.specs.Names.{namesOf};
 ghost use Rattle.labels.specs.Matchings.{matchingOf};
 ghost use Rattle.side_parts.specs.Sides.{labelsIn, Positions};
-ghost use Rattle.key_lookup.specs.Keys.{Hashed, Numbered};
-ghost use Rattle.key_lookup.specs.Buckets.{buckets, noted, Noted};
+ghost use Rattle.side_parts.specs.Lent.{lent};
+ghost use Rattle.key_numbers.specs.key_lookup.Keys.{Hashed, Numbered};
+ghost use Rattle.key_numbers.specs.key_lookup.Buckets.{buckets, noted, Noted};
 
 // Notes a place at a hash's bucket, where nothing before it is noted.
 fn note(table: &mut [u16], h: u64, n: usize)
@@ -35,35 +38,34 @@ fn note_hashes(hashes: &[u64], table: &mut [u16])
 
 // Numbers the keys of the right side, with the places of the left hashes noted.
 fn number_noted(
-    left: &[u8],
-    left_at: &[usize],
+    labels: [&[u8]; 2],
+    at: [&[usize]; 2],
     left_hashes: &[u64],
-    array: &[u8],
-    at: &[usize],
     matching: Matching,
     list: &[u8],
     hashes: &mut [u64],
     keys: &mut [usize],
     table: &mut [u16],
 )
-    requires { ⌜ Hashed (matchingOf matching) (namesOf (now list)) (now left) (now «left_at») (now «left_hashes») ⌝ }
+    requires { ⌜ Hashed (matchingOf matching) (namesOf (now list)) (lent labels 0) (lent at 0) (now «left_hashes») ⌝ }
     requires { ⌜ Noted (now table) (now «left_hashes») ⌝ }
-    requires { ⌜ Positions (now array) (now at) ⌝ }
-    requires { ⌜ length (now at) ≡ length (now keys) + 1 ⌝ }
+    requires { ⌜ Positions (lent labels 1) (lent at 1) ⌝ }
+    requires { ⌜ length (lent at 1) ≡ length (now keys) + 1 ⌝ }
     requires { ⌜ length (now hashes) ≡ length (now keys) ⌝ }
-    ensures { λ _. ⌜ Numbered (matchingOf matching) (namesOf (now (list .entry))) (labelsIn (now (left .entry)) (now («left_at» .entry))) (now (array .entry)) (now (at .entry)) (now (hashes .exit)) (now (keys .exit)) ⌝ }
+    ensures { λ _. ⌜ Numbered (matchingOf matching) (namesOf (now (list .entry)))
+        (labelsIn (lent (labels .entry) 0) (lent (at .entry) 0)) (lent (labels .entry) 1) (lent (at .entry) 1)
+        (now (hashes .exit)) (now (keys .exit)) ⌝ }
 {
+    let own = at[1];
     let mut i: usize = 0;
     while i < keys.len() {
-        let rec = side_parts::record(array, at, i);
+        let rec = side_parts::record(labels[1], own, i);
         let h = signature::hash_key(rec, matching, list);
         let e = i + 1;
         let k = key_lookup::key_number(
-            left,
-            left_at,
+            labels,
+            [at[0], &own[..e]],
             left_hashes,
-            array,
-            &at[..e],
             &hashes[..i],
             table,
             rec,
@@ -79,12 +81,12 @@ fn number_noted(
 }
 
 // Numbers the keys of the right side by their first places: the left side's number, else their own behind the left ones.
-pub fn number_right(
-    left: &[u8],
-    left_at: &[usize],
+pub fn number_right<'a, 'b>(
+    left: &'a [u8],
+    left_at: &'b [usize],
     left_hashes: &[u64],
-    array: &[u8],
-    at: &[usize],
+    array: &'a [u8],
+    at: &'b [usize],
     matching: Matching,
     list: &[u8],
     hashes: &mut [u64],
@@ -94,17 +96,17 @@ pub fn number_right(
     requires { ⌜ Positions (now array) (now at) ⌝ }
     requires { ⌜ length (now at) ≡ length (now keys) + 1 ⌝ }
     requires { ⌜ length (now hashes) ≡ length (now keys) ⌝ }
-    ensures { λ _. ⌜ Numbered (matchingOf matching) (namesOf (now (list .entry))) (labelsIn (now (left .entry)) (now («left_at» .entry))) (now (array .entry)) (now (at .entry)) (now (hashes .exit)) (now (keys .exit)) ⌝ }
+    ensures { λ _. ⌜ Numbered (matchingOf matching) (namesOf (now (list .entry)))
+        (labelsIn (now (left .entry)) (now («left_at» .entry))) (now (array .entry)) (now (at .entry))
+        (now (hashes .exit)) (now (keys .exit)) ⌝ }
 {
     // 65535: nothing is noted
     let mut table = [65535u16; 16384];
     note_hashes(left_hashes, &mut table);
     number_noted(
-        left,
-        left_at,
+        [left, array],
+        [left_at, at],
         left_hashes,
-        array,
-        at,
         matching,
         list,
         hashes,
@@ -125,7 +127,8 @@ pub fn number_left(
     requires { ⌜ Positions (now array) (now at) ⌝ }
     requires { ⌜ length (now at) ≡ length (now keys) + 1 ⌝ }
     requires { ⌜ length (now hashes) ≡ length (now keys) ⌝ }
-    ensures { λ _. ⌜ Numbered (matchingOf matching) (namesOf (now (list .entry))) [] (now (array .entry)) (now (at .entry)) (now (hashes .exit)) (now (keys .exit)) ⌝ }
+    ensures { λ _. ⌜ Numbered (matchingOf matching) (namesOf (now (list .entry))) [] (now (array .entry)) (now (at .entry))
+        (now (hashes .exit)) (now (keys .exit)) ⌝ }
 {
     let none = [0u64; 1];
     number_right(

@@ -1,5 +1,5 @@
--- The number of a series that takes no part, and numbers with the series that have only missing readings taken out. Assumes nothing.
-use Prim.Native.Nat.{ℕ, zero, suc, _+_, _*_, _<_}
+-- Key numbers with the series that have only missing readings taken out. Assumes nothing.
+use Prim.Native.Nat.{ℕ, zero, suc, _*_, _<_}
 use mathlib.Core.Path.{_≡_, refl, sym, ap, _∙_}
 use mathlib.Core.Bool.{false, cond}
 use mathlib.Core.List.{List, [], _∷_}
@@ -10,11 +10,8 @@ use lib.ListN.{length, getD, take, drop}
 use lib.Seq.{drop-drop}
 use borrow.Author.Tests.{ne-eqb}
 use Rattle.model.specs.Row.{onlyMissing}
+use Rattle.plan.specs.Keys.{dropped}
 use Rattle.side_parts.specs.Sides.{rowAt}
-
--- matches nothing: numbers are below 1,024
-abbrev pub dropped : ℕ
-dropped = 1024
 
 -- 01: first drops series with only N
 abbrev pub keptNumber : List ℕ → ℕ → ℕ
@@ -31,12 +28,13 @@ unfolding droppedMissing
 dropped-count p rows [] = refl
 dropped-count p rows (k ∷ ks) = ap suc (dropped-count p (drop p rows) ks)
 
-pub dropped-at : (p : ℕ) (rows keys : List ℕ) (i : ℕ) → i < length keys → getD (droppedMissing p rows keys) i 0 ≡ keptNumber (rowAt rows p i) (getD keys i 0)
+pub dropped-at : (p : ℕ) (rows keys : List ℕ) (i : ℕ) → i < length keys → getD (droppedMissing p rows keys) i 0 ≡ keptNumber (rowAt p rows i) (getD keys i 0)
 unfolding droppedMissing
 dropped-at p rows [] i h = absurd (omega arith)
 dropped-at p rows (k ∷ ks) zero h = rw (zero-mul p)
 dropped-at p rows (k ∷ ks) (suc i) h =
-    let next : drop (suc i * p) rows ≡ drop (i * p) (drop p rows) = ap (λ (n : ℕ). drop n rows) (suc-mul i p ∙ add-comm (i * p) p) ∙ sym (drop-drop (i * p) p rows) in
+    let next : drop (suc i * p) rows ≡ drop (i * p) (drop p rows) =
+    ap (λ (n : ℕ). drop n rows) (suc-mul i p ∙ add-comm (i * p) p) ∙ sym (drop-drop (i * p) p rows) in
     rw next (dropped-at p (drop p rows) ks i (omega arith))
 
 pub dropped-apart : (k : ℕ) → k < 1024 → eqb k dropped ≡ false

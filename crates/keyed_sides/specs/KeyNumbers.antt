@@ -10,14 +10,15 @@ use Rattle.model.specs.Query.{Query, sameKey}
 use Rattle.model.specs.Vector.{Series, seriesOf}
 use Rattle.model.specs.Laws.Vector.{series-labels, series-count}
 use Rattle.keyed_sides.specs.Dropped.{keptNumber, droppedMissing}
-use Rattle.key_lookup.specs.Keys.{sameKeys, numbers}
-use Rattle.key_lookup.specs.KeyLaws.{left-left, left-right, right-right, left-below, right-below}
+use Rattle.key_numbers.specs.key_lookup.Keys.{sameKeys, numbers}
+use Rattle.key_numbers.specs.key_lookup.KeyLaws.{left-left, left-right, right-right, left-below, right-below}
 use Rattle.plan.specs.Laws.Common.{noSeries, getD-labels}
 use Rattle.plan.specs.Laws.Numbers.{TellsKeys, KeysTold, droppedKeys}
 use Rattle.plan.specs.Pairs.{noLabels}
 
 -- series dropped by their rows in one array
-pub dropped-rows : (p : ℕ) (rows : List ℕ) (ks : List ℕ) (ls : List Labels) → length ks ≡ length ls → droppedKeys ks (seriesOf p ls rows) ≡ droppedMissing p rows ks
+pub dropped-rows : (p : ℕ) (rows : List ℕ) (ks : List ℕ) (ls : List Labels) → length ks ≡ length ls
+    → droppedKeys ks (seriesOf p ls rows) ≡ droppedMissing p rows ks
 unfolding droppedKeys droppedMissing seriesOf
 dropped-rows p rows [] [] e = refl
 dropped-rows p rows [] (l ∷ ls) e = absurd (omega (arith, e))
@@ -28,7 +29,8 @@ label-at : (p : ℕ) (ls : List Labels) (readings : List ℕ) (i : ℕ) → getD
 label-at p ls readings i = sym (getD-labels (seriesOf p ls readings) i) ∙ ap (λ x. getD x i noLabels) (series-labels p ls readings)
 
 -- both sides numbered by first place
-module _ (q : Query) (p : ℕ) (lefts rights : List Labels) (rows rows′ keys keys′ : List ℕ) (n : keys ≡ numbers (q .matching) (q .matchingList) lefts lefts) (n′ : keys′ ≡ numbers (q .matching) (q .matchingList) (lefts ++ rights) rights)
+module _ (q : Query) (p : ℕ) (lefts rights : List Labels) (rows rows′ keys keys′ : List ℕ)
+    (n : keys ≡ numbers (q .matching) (q .matchingList) lefts lefts) (n′ : keys′ ≡ numbers (q .matching) (q .matchingList) (lefts ++ rights) rights)
     (count : length keys ≡ length lefts) (count′ : length keys′ ≡ length rights) (few : length lefts ≤ 512) (few′ : length rights ≤ 512) where
   abbrev ls : List Series
   ls = seriesOf p lefts rows
@@ -36,12 +38,15 @@ module _ (q : Query) (p : ℕ) (lefts rights : List Labels) (rows rows′ keys k
   abbrev rs : List Series
   rs = seriesOf p rights rows′
 
-  tells : (cs ds : List Labels) (xs ys rowsC rowsD : List ℕ) → ((i j : ℕ) → i < length cs → j < length ds → eqb (getD xs i 0) (getD ys j 0) ≡ sameKeys (q .matching) (q .matchingList) (getD cs i noLabels) (getD ds j noLabels))
+  tells : (cs ds : List Labels) (xs ys rowsC rowsD : List ℕ)
+      → ((i j : ℕ) → i < length cs → j < length ds → eqb (getD xs i 0) (getD ys j 0)
+      ≡ sameKeys (q .matching) (q .matchingList) (getD cs i noLabels) (getD ds j noLabels))
       → TellsKeys q (seriesOf p cs rowsC) (seriesOf p ds rowsD) xs ys
   unfolding sameKey
   tells cs ds xs ys rowsC rowsD h =
       record {
-        tells = λ i j hi hj. rw (label-at p cs rowsC i, label-at p ds rowsD j) (h i j (rw (series-count p cs rowsC) at hi) (rw (series-count p ds rowsD) at hj));
+        tells = λ i j hi hj. rw (label-at p cs rowsC i, label-at p ds rowsD j)
+            (h i j (rw (series-count p cs rowsC) at hi) (rw (series-count p ds rowsD) at hj));
       }
 
   pub keys-told : KeysTold q (seriesOf p lefts rows) (seriesOf p rights rows′) keys keys′
@@ -52,6 +57,8 @@ module _ (q : Query) (p : ℕ) (lefts rights : List Labels) (rows rows′ keys k
         leftLeft = tells lefts lefts keys keys rows rows (left-left (q .matching) (q .matchingList) lefts rights keys keys′ n n′ noLabels);
         leftRight = tells lefts rights keys keys′ rows rows′ (left-right (q .matching) (q .matchingList) lefts rights keys keys′ n n′ noLabels);
         rightRight = tells rights rights keys′ keys′ rows′ rows′ (right-right (q .matching) (q .matchingList) lefts rights keys keys′ n n′ noLabels);
-        leftBelow = λ i h. let z = left-below (q .matching) (q .matchingList) lefts rights keys keys′ n n′ noLabels i (rw (series-count p lefts rows) at h) in omega (arith, z, few, few′);
-        rightBelow = λ i h. let z = right-below (q .matching) (q .matchingList) lefts rights keys keys′ n n′ noLabels i (rw (series-count p rights rows′) at h) in omega (arith, z, few, few′);
+        leftBelow = λ i h. let z = left-below (q .matching) (q .matchingList) lefts rights keys keys′ n n′ noLabels i
+            (rw (series-count p lefts rows) at h) in omega (arith, z, few, few′);
+        rightBelow = λ i h. let z = right-below (q .matching) (q .matchingList) lefts rights keys keys′ n n′ noLabels i
+            (rw (series-count p rights rows′) at h) in omega (arith, z, few, few′);
       }

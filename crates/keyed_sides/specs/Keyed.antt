@@ -1,20 +1,20 @@
 -- Both sides of a call with their key numbers; under arithmetic the series with only missing readings take no part. Assumes nothing.
-use Prim.Native.Nat.{ℕ, _+_, _-_, _≤_}
-use mathlib.Core.Path.{_≡_, refl, ap, _∙_}
+use Prim.Native.Nat.{ℕ, _*_}
+use mathlib.Core.Path.{_≡_, refl, sym, ap, _∙_}
 use mathlib.Core.Bool.{Bool, true, false, cond}
-use mathlib.Core.List.{List, [], _++_}
+use mathlib.Core.List.{List, _++_}
 use native.Mathlib.Omega.{arith}
 use lib.ListN.{length, length-map}
 use Rattle.operator.specs.Kinds.{Kind, arithmetic, comparison, setRule, fallback, notCarried}
+use Rattle.model.specs.Labels.{Labels}
 use Rattle.model.specs.Edits.{Names}
 use Rattle.model.specs.Query.{Matching, Query}
-use Rattle.side_parts.specs.Sides.{labelsIn, sideOf}
-use Rattle.side_parts.specs.SideLaws.{labels-count}
-use Rattle.key_lookup.specs.Keys.{firstPlace, numbers}
-use Rattle.keyed_sides.specs.Dropped.{droppedMissing, dropped-count}
+use Rattle.side_parts.specs.Lent.{Side, Sides, sideLabels, sideSeries, Held, BothHeld}
 use Rattle.plan.specs.Laws.Keyed.{Numbers}
 use Rattle.plan.specs.Laws.Numbers.{KeysTold, numbers-all, numbers-kept}
-use Rattle.keyed_sides.specs.Lent.{LentSide}
+use Rattle.plan.specs.Laws.Sides.{labels-many}
+use Rattle.key_numbers.specs.key_lookup.Keys.{firstPlace, numbers}
+use Rattle.keyed_sides.specs.Dropped.{droppedMissing, dropped-count}
 use Rattle.keyed_sides.specs.KeyNumbers.{keys-told, dropped-rows}
 
 -- 01: Non-comparison arithmetic first drops series with only N on either side
@@ -29,66 +29,135 @@ dropsMissing notCarried = true
 abbrev pub keptKeys : Bool → ℕ → List ℕ → List ℕ → List ℕ
 keptKeys drops p rows keys = cond drops (droppedMissing p rows keys) keys
 
--- keys numbered by first place, the left ones first
-pub record SidesNumbered (m : Matching) (ns : Names) (array at keys array′ at′ keys′ : List ℕ) : Type 0 where
-  pub lefts : keys ≡ numbers m ns (labelsIn array at) (labelsIn array at)
-  pub rights : keys′ ≡ numbers m ns (labelsIn array at ++ labelsIn array′ at′) (labelsIn array′ at′)
+-- the keys of both sides' labels, numbered by first place, the left ones first
+pub record BothNumbered (m : Matching) (ns : Names) (lefts rights : List Labels) (keys keys′ : List ℕ) : Type 0 where
+  pub left : keys ≡ numbers m ns lefts lefts
+  pub right : keys′ ≡ numbers m ns (lefts ++ rights) rights
 
--- a side with a key number for each series
-pub record KeyedSide (p : ℕ) (array at keys rows : List ℕ) : Type 0 where
-  pub lent : LentSide p array at rows
-  pub count : length at ≡ length keys + 1
+-- key numbers put in place of those before
+abbrev pub withKeys : Sides → List ℕ → List ℕ → Sides
+withKeys s keys keys′ = record {
+  shape = s .shape;
+  left = record { array = s .left .array; at = s .left .at; keys = keys; rows = s .left .rows };
+  right = record { array = s .right .array; at = s .right .at; keys = keys′; rows = s .right .rows };
+}
 
--- both sides: numbers that tell the keys of the series that take part
-pub record Keyed (q : Query) (drops : Bool) (p : ℕ) (array at keys rows array′ at′ keys′ rows′ : List ℕ) : Type 0 where
-  pub lefts : KeyedSide p array at keys rows
-  pub rights : KeyedSide p array′ at′ keys′ rows′
-  pub numbers : Numbers q drops (sideOf array at p rows) (sideOf array′ at′ p rows′) keys keys′
+-- both sides, whose numbers tell the keys of the series that take part
+pub record SidesKeyed (q : Query) (drops : Bool) (s : Sides) : Type 0 where
+  pub both : BothHeld s
+  pub numbers :
+      Numbers q drops (sideSeries (s .shape .points) (s .left)) (sideSeries (s .shape .points) (s .right)) (s .left .keys) (s .right .keys)
 
--- the numbers of the keys by first place, but for series that are dropped; under each query with this matching and list they tell its keys
-pub record NumbersKept (m : Matching) (ns : Names) (drops : Bool) (p : ℕ) (array at keys rows array′ at′ keys′ rows′ : List ℕ) : Type 0 where
-  pub lefts : keys ≡ keptKeys drops p rows (numbers m ns (labelsIn array at) (labelsIn array at))
-  pub rights : keys′ ≡ keptKeys drops p rows′ (numbers m ns (labelsIn array at ++ labelsIn array′ at′) (labelsIn array′ at′))
-  pub each : (q : Query) → q .matching ≡ m → q .matchingList ≡ ns → Keyed q drops p array at keys rows array′ at′ keys′ rows′
+-- a side is held with any key numbers, one for each series
+held-again : (p : ℕ) (x : Side) (keys : List ℕ) → Held p x → length keys ≡ length (x .keys)
+    → Held p (record { array = x .array; at = x .at; keys = keys; rows = x .rows })
+held-again p x keys h e = record {
+  records = h .records;
+  formed = h .formed;
+  rows = record { narrow = h .rows .narrow; few = rw e (h .rows .few); whole = rw e (h .rows .whole) };
+  count = rw e (h .count);
+}
 
-module _ (q : Query) (p : ℕ) (array at rows keys array′ at′ rows′ keys′ : List ℕ) (l : LentSide p array at rows) (r : LentSide p array′ at′ rows′)
-    (n : SidesNumbered (q .matching) (q .matchingList) array at keys array′ at′ keys′) where
-  as-many : length keys ≡ length (labelsIn array at)
-  as-many = ap length (n .lefts) ∙ length-map (labelsIn array at) (firstPlace (q .matching) (q .matchingList) (labelsIn array at))
+-- numbered, then dropped where the operator asks for it: for each query with this matching and list
+module _ (q : Query) (s : Sides) (b : BothHeld s) (keys keys′ : List ℕ)
+    (n : BothNumbered (q .matching) (q .matchingList) (sideLabels (s .left)) (sideLabels (s .right)) keys keys′) where
+  abbrev p : ℕ
+  p = s .shape .points
 
-  as-many-right : length keys′ ≡ length (labelsIn array′ at′)
-  as-many-right = ap length (n .rights) ∙ length-map (labelsIn array′ at′) (firstPlace (q .matching) (q .matchingList) (labelsIn array at ++ labelsIn array′ at′))
+  abbrev lefts : List Labels
+  lefts = sideLabels (s .left)
 
-  told : KeysTold q (sideOf array at p rows) (sideOf array′ at′ p rows′) keys keys′
+  abbrev rights : List Labels
+  rights = sideLabels (s .right)
+
+  as-many : length keys ≡ length lefts
+  as-many = ap length (n .left) ∙ length-map lefts (firstPlace (q .matching) (q .matchingList) lefts)
+
+  as-many-right : length keys′ ≡ length rights
+  as-many-right = ap length (n .right) ∙ length-map rights (firstPlace (q .matching) (q .matchingList) (lefts ++ rights))
+
+  left-keys : length keys ≡ length (s .left .keys)
+  left-keys = as-many ∙ sym (labels-many p (s .left) (b .left))
+
+  right-keys : length keys′ ≡ length (s .right .keys)
+  right-keys = as-many-right ∙ sym (labels-many p (s .right) (b .right))
+
+  told : KeysTold q (sideSeries p (s .left)) (sideSeries p (s .right)) keys keys′
   told =
-      keys-told q p (labelsIn array at) (labelsIn array′ at′) rows rows′ keys keys′ (n .lefts) (n .rights) as-many as-many-right
-      (omega (arith, labels-count array at, l .few)) (omega (arith, labels-count array′ at′, r .few))
+      keys-told q p lefts rights (s .left .rows) (s .right .rows) keys keys′ (n .left) (n .right) as-many as-many-right
+      (omega (arith, as-many, left-keys, b .left .rows .few)) (omega (arith, as-many-right, right-keys, b .right .rows .few))
 
-  all-keyed : Keyed q false p array at keys rows array′ at′ keys′ rows′
-  all-keyed =
-      record {
-        lefts = record { lent = l; count = omega (arith, as-many, labels-count array at, l .some) };
-        rights = record { lent = r; count = omega (arith, as-many-right, labels-count array′ at′, r .some) };
-        numbers = numbers-all q (sideOf array at p rows) (sideOf array′ at′ p rows′) keys keys′ told;
-      }
+  all-keyed : SidesKeyed q false (withKeys s keys keys′)
+  all-keyed = record {
+    both = record { left = held-again p (s .left) keys (b .left) left-keys; right = held-again p (s .right) keys′ (b .right) right-keys };
+    numbers = numbers-all q (sideSeries p (s .left)) (sideSeries p (s .right)) keys keys′ told;
+  }
 
-  kept-keyed : Keyed q true p array at (droppedMissing p rows keys) rows array′ at′ (droppedMissing p rows′ keys′) rows′
-  kept-keyed =
-      record {
-        lefts = record { lent = l; count = omega (arith, dropped-count p rows keys, as-many, labels-count array at, l .some) };
-        rights = record { lent = r; count = omega (arith, dropped-count p rows′ keys′, as-many-right, labels-count array′ at′, r .some) };
-        numbers = rw (← dropped-rows p rows keys (labelsIn array at) as-many, ← dropped-rows p rows′ keys′ (labelsIn array′ at′) as-many-right) (numbers-kept q (sideOf array at p rows) (sideOf array′ at′ p rows′) keys keys′ told);
-      }
+  kept-keyed : SidesKeyed q true (withKeys s (droppedMissing p (s .left .rows) keys) (droppedMissing p (s .right .rows) keys′))
+  kept-keyed = record {
+    both =
+        record {
+          left =
+              held-again p (s .left) (droppedMissing p (s .left .rows) keys) (b .left)
+              (dropped-count p (s .left .rows) keys ∙ left-keys);
+          right =
+              held-again p (s .right) (droppedMissing p (s .right .rows) keys′) (b .right)
+              (dropped-count p (s .right .rows) keys′ ∙ right-keys);
+        };
+    numbers =
+        rw (← dropped-rows p (s .left .rows) keys lefts as-many, ← dropped-rows p (s .right .rows) keys′ rights as-many-right)
+        (numbers-kept q (sideSeries p (s .left)) (sideSeries p (s .right)) keys keys′ told);
+  }
 
-  pub keyed-sides : (drops : Bool) → Keyed q drops p array at (keptKeys drops p rows keys) rows array′ at′ (keptKeys drops p rows′ keys′) rows′
-  keyed-sides true = kept-keyed
-  keyed-sides false = all-keyed
+  kept-sides : (drops : Bool) → SidesKeyed q drops (withKeys s (keptKeys drops p (s .left .rows) keys) (keptKeys drops p (s .right .rows) keys′))
+  kept-sides true = kept-keyed
+  kept-sides false = all-keyed
 
-pub numbers-told : (m : Matching) (ns : Names) (drops : Bool) (p : ℕ) (array at rows keys array′ at′ rows′ keys′ kept kept′ : List ℕ) → LentSide p array at rows → LentSide p array′ at′ rows′ → SidesNumbered m ns array at keys array′ at′ keys′
-    → kept ≡ keptKeys drops p rows keys → kept′ ≡ keptKeys drops p rows′ keys′ → NumbersKept m ns drops p array at kept rows array′ at′ kept′ rows′
-numbers-told m ns drops p array at rows keys array′ at′ rows′ keys′ kept kept′ l r n e e′ =
-    record {
-      lefts = e ∙ ap (keptKeys drops p rows) (n .lefts);
-      rights = e′ ∙ ap (keptKeys drops p rows′) (n .rights);
-      each = λ q hm hn. rw (e, e′) (keyed-sides q p array at rows keys array′ at′ rows′ keys′ l r (rw (hm, hn) n) drops);
-    }
+  pub sides-keyed : (drops : Bool) (kept kept′ : List ℕ) → kept ≡ keptKeys drops p (s .left .rows) keys
+      → kept′ ≡ keptKeys drops p (s .right .rows) keys′ → SidesKeyed q drops (withKeys s kept kept′)
+  sides-keyed drops kept kept′ e e′ = rw (e, e′) (kept-sides drops)
+
+-- as many numbers as keys before them, so as many rows
+module _ (m : Matching) (ns : Names) (x : Sides) (b : BothHeld x) (keys keys′ : List ℕ)
+    (n : BothNumbered m ns (sideLabels (x .left)) (sideLabels (x .right)) keys keys′) where
+  left-many : length keys ≡ length (x .left .keys)
+  left-many =
+      ap length (n .left) ∙ length-map (sideLabels (x .left)) (firstPlace m ns (sideLabels (x .left)))
+      ∙ sym (labels-many (x .shape .points) (x .left) (b .left))
+
+  right-many : length keys′ ≡ length (x .right .keys)
+  right-many =
+      ap length (n .right) ∙ length-map (sideLabels (x .right)) (firstPlace m ns (sideLabels (x .left) ++ sideLabels (x .right)))
+      ∙ sym (labels-many (x .shape .points) (x .right) (b .right))
+
+  pub numbered-rows : length (x .left .rows) ≡ length keys * x .shape .points
+  numbered-rows = rw left-many (b .left .rows .whole)
+
+  pub numbered-rows-right : length (x .right .rows) ≡ length keys′ * x .shape .points
+  numbered-rows-right = rw right-many (b .right .rows .whole)
+
+-- both sides' keys numbered, then those of series that take no part dropped
+pub record KeysKept (m : Matching) (ns : Names) (drops : Bool) (s : Sides) (keys keys′ : List ℕ) : Type 0 where
+  pub left : keys ≡ keptKeys drops (s .shape .points) (s .left .rows) (numbers m ns (sideLabels (s .left)) (sideLabels (s .left)))
+  pub right :
+      keys′ ≡ keptKeys drops (s .shape .points) (s .right .rows)
+      (numbers m ns (sideLabels (s .left) ++ sideLabels (s .right)) (sideLabels (s .right)))
+
+-- numbered first, then dropped
+pub keys-kept : (m : Matching) (ns : Names) (drops : Bool) (s : Sides) (keys keys′ kept kept′ : List ℕ)
+    → BothNumbered m ns (sideLabels (s .left)) (sideLabels (s .right)) keys keys′
+    → kept ≡ keptKeys drops (s .shape .points) (s .left .rows) keys → kept′ ≡ keptKeys drops (s .shape .points) (s .right .rows) keys′
+    → KeysKept m ns drops s kept kept′
+keys-kept m ns drops s keys keys′ kept kept′ n e e′ = record {
+  left = e ∙ ap (keptKeys drops (s .shape .points) (s .left .rows)) (n .left);
+  right = e′ ∙ ap (keptKeys drops (s .shape .points) (s .right .rows)) (n .right);
+}
+
+-- they tell the keys of each query with this matching and list
+pub kept-keyed-by : (q : Query) (drops : Bool) (s : Sides) → BothHeld s → (keys keys′ : List ℕ)
+    → KeysKept (q .matching) (q .matchingList) drops s keys keys′ → SidesKeyed q drops (withKeys s keys keys′)
+kept-keyed-by q drops s b keys keys′ k =
+    let lefts = sideLabels (s .left) in
+    let rights = sideLabels (s .right) in
+    sides-keyed q s b (numbers (q .matching) (q .matchingList) lefts lefts) (numbers (q .matching) (q .matchingList) (lefts ++ rights) rights)
+    (record { left = refl; right = refl }) drops keys keys′ (k .left) (k .right)

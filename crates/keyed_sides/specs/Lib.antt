@@ -1,4 +1,4 @@
 pub mod Dropped
-pub mod Lent
+pub mod TakenSides
 pub mod KeyNumbers
 pub mod Keyed

@@ -25,7 +25,7 @@ fn kept_or_dropped(row: &[u64], k: usize) -> usize
     ensures { λ r. ⌜ r ≡ keptNumber (now (row .entry)) k ⌝ }
 {
     if only_missing(row) {
-        key_places::DROPPED
+        key_ends::DROPPED
     } else {
         k
     }

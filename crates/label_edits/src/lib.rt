@@ -20,7 +20,10 @@ pub fn remove_tags_on_size(rec: &[u8], list: &[u8]) -> Size
 
 pub fn remove_tags_on(out: &mut [u8], at: usize, rec: &[u8], list: &[u8]) -> usize
     requires { ⌜ at + length (encode (removeTagsOn (namesOf (now list)) (labelsOf (now rec)))) ≤ length (now out) ⌝ }
-    ensures { λ r. ⌜ Put (now (out .entry)) at (encode (removeTagsOn (namesOf (now (list .entry))) (labelsOf (now (rec .entry))))) (now (out .exit)) r ⌝ }
+    ensures { λ r. ⌜
+        Put (now (out .entry)) at (encode (removeTagsOn (namesOf (now (list .entry))) (labelsOf (now (rec .entry)))))
+        (now (out .exit)) r
+        ⌝ }
 {
     let named = labels::in_list(list, &Operator::METRIC_NAME);
     kept_labels::put_kept(out, at, rec, Matching::On, list, named)
@@ -35,7 +38,10 @@ pub fn remove_tags_ignoring_size(rec: &[u8], list: &[u8]) -> Size
 
 pub fn remove_tags_ignoring(out: &mut [u8], at: usize, rec: &[u8], list: &[u8]) -> usize
     requires { ⌜ at + length (encode (removeTagsIgnoring (namesOf (now list)) (labelsOf (now rec)))) ≤ length (now out) ⌝ }
-    ensures { λ r. ⌜ Put (now (out .entry)) at (encode (removeTagsIgnoring (namesOf (now (list .entry))) (labelsOf (now (rec .entry))))) (now (out .exit)) r ⌝ }
+    ensures { λ r. ⌜
+        Put (now (out .entry)) at (encode (removeTagsIgnoring (namesOf (now (list .entry))) (labelsOf (now (rec .entry)))))
+        (now (out .exit)) r
+        ⌝ }
 {
     let named = labels::in_list(list, &Operator::METRIC_NAME);
     kept_labels::put_kept(out, at, rec, Matching::Ignoring, list, !named)

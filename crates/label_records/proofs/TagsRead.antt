@@ -36,7 +36,8 @@ module _ (size : ℕ) (g : Bool) (k : List ℕ) (n : ℕ) (t : List ℕ) where
   unfolding decodeTags
   no-value x t₁ h h₁ = rw (h, h₁)
 
-  one-tag : (x v t₁ t₂ : List ℕ) → readField t ≡ field x t₁ → readField t₁ ≡ field v t₂ → tagsJudged size g k (decodeTags (suc n) t) ≡ tagsJudged size (g && mayFollow k x) x (decodeTags n t₂)
+  one-tag : (x v t₁ t₂ : List ℕ) → readField t ≡ field x t₁ → readField t₁ ≡ field v t₂
+      → tagsJudged size g k (decodeTags (suc n) t) ≡ tagsJudged size (g && mayFollow k x) x (decodeTags n t₂)
   unfolding decodeTags ascending
   one-tag x v t₁ t₂ h h₁ = rw (h, h₁) (go (decodeTags n t₂))
     where
@@ -56,9 +57,12 @@ module _ (want : Record) (s : List ℕ) (g : Bool) (k : List ℕ) (n p : ℕ) (i
   tags-cut-value x y a e h hx ex hy ey =
       sym (inv ∙ rw (more n h) (no-value (length s) g k (n - 1) (drop p s) _ (drop e s) (placed s p a e x hx ex .read) (unplaced s e y hy ey)))
 
-  pub tags-turn : (x y : Place) (a e b f : ℕ) (r : Bool) → 0 < n → x ≡ fieldAt s p → x ≡ At a e → y ≡ fieldAt s e → y ≡ At b f → r ≡ (g && mayFollow k (take (e - a) (drop a s))) → want ≡ tagsJudged (length s) r (take (e - a) (drop a s)) (decodeTags (n - 1) (drop f s))
+  pub tags-turn : (x y : Place) (a e b f : ℕ) (r : Bool) → 0 < n → x ≡ fieldAt s p → x ≡ At a e → y ≡ fieldAt s e → y ≡ At b f
+      → r ≡ (g && mayFollow k (take (e - a) (drop a s))) → want ≡ tagsJudged (length s) r (take (e - a) (drop a s)) (decodeTags (n - 1) (drop f s))
   tags-turn x y a e b f r h hx ex hy ey hr =
-      inv ∙ ap (λ (m : ℕ). tagsJudged (length s) g k (decodeTags m (drop p s))) (more n h) ∙ rw hr (one-tag (length s) g k (n - 1) (drop p s) _ _ (drop e s) (drop f s) (placed s p a e x hx ex .read) (placed s e b f y hy ey .read))
+      inv ∙ ap (λ (m : ℕ). tagsJudged (length s) g k (decodeTags m (drop p s))) (more n h)
+      ∙ rw hr (one-tag (length s) g k (n - 1) (drop p s) _ _ (drop e s) (drop f s) (placed s p a e x hx ex .read)
+      (placed s e b f y hy ey .read))
 
   pub tags-fine : n ≤ 0 → g ≡ true → p ≤ length s → Ok p ≡ want
   unfolding decodeTags ascending

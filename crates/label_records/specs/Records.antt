@@ -1,6 +1,5 @@
--- What reading a record at a place answers, and 01's numbers for it. Assumes nothing.
+-- What reading a record at a place answers, with 01's numbers. Assumes nothing.
 use Prim.Native.Nat.{ℕ, _-_}
-use mathlib.Core.Path.{_≡_, refl}
 use mathlib.Core.List.{List}
 use mathlib.Core.Bool.{Bool, _&&_, cond}
 use lib.ListN.{length}
@@ -9,28 +8,22 @@ use Rattle.model.specs.Record.{RawTags, cutTags, rawTags, Decoded, decoded, cut
 use Rattle.label_records.specs.declared.Record.{Record}
 use Rattle.label_records.specs.declared.Record.the-variants.{Ok, Cut, BadKey}
 
--- a record among `size` bytes, or where the bytes behind it start
-abbrev pub recordOf : ℕ → Decoded → Record
-recordOf size (decoded l rest) = Ok (size - length rest)
-recordOf size cut = Cut
-recordOf size badKey = BadKey
+-- where the bytes behind a record start, or 01's number
+pub data RecordAnswer : Type 0 where
+  behind : ℕ → RecordAnswer
+  refusal : ℕ → RecordAnswer
 
--- 01: 3, a record cut or over 32 tags; 4, an empty key, key order or `__name__`. 0 where nothing is refused.
--- The number of what the code answers, and of what is decoded.
-abbrev pub recordNumber : Record → ℕ
-recordNumber (Ok next) = 0
-recordNumber Cut = 3
-recordNumber BadKey = 4
+-- the code's answers. 01: 3, a record cut or over 32 tags; 4, an empty key, key order or `__name__`.
+abbrev pub recordAnswer : Record → RecordAnswer
+recordAnswer (Ok next) = behind next
+recordAnswer Cut = refusal 3
+recordAnswer BadKey = refusal 4
 
-abbrev pub refusalOf : Decoded → ℕ
-refusalOf (decoded l rest) = 0
-refusalOf cut = 3
-refusalOf badKey = 4
-
-pub record-number : (size : ℕ) (d : Decoded) → recordNumber (recordOf size d) ≡ refusalOf d
-record-number size (decoded l rest) = refl
-record-number size cut = refl
-record-number size badKey = refl
+-- the answer for a record among `size` bytes, by what is decoded there
+abbrev pub decodedAnswer : ℕ → Decoded → RecordAnswer
+decodedAnswer size (decoded l rest) = behind (size - length rest)
+decodedAnswer size cut = refusal 3
+decodedAnswer size badKey = refusal 4
 
 -- tags behind the key p, where those up to p were found good or not
 abbrev pub tagsJudged : ℕ → Bool → List ℕ → RawTags → Record

@@ -8,7 +8,7 @@ ghost use Prim.Native.Nat.{_≤_};
 ghost use lib.ListN.{length, drop};
 ghost use Rattle.model.specs.Labels.{mayFollow};
 ghost use Rattle.model.specs.Record.{decodeTags, decode};
-ghost use Rattle.label_records.specs.Records.{recordOf, tagsJudged};
+ghost use Rattle.label_records.specs.Records.{recordAnswer, decodedAnswer, tagsJudged};
 
 // Whether a key may follow the key p, where what came before is good.
 fn may_follow(p: &[u8], k: &[u8], good: bool) -> bool
@@ -64,7 +64,7 @@ fn read_tags(s: &[u8], at: usize, n: usize) -> Record
 
 // The record at a place.
 pub fn read_record(s: &[u8], at: usize) -> Record
-    ensures { λ r. ⌜ r ≡ recordOf (length (now (s .entry))) (decode (drop at (now (s .entry)))) ⌝ }
+    ensures { λ r. ⌜ recordAnswer r ≡ decodedAnswer (length (now (s .entry))) (decode (drop at (now (s .entry)))) ⌝ }
 {
     let Place::At { start: _, end } = fields::field_at(s, at) else {
         return Record::Cut;

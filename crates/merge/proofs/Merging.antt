@@ -98,13 +98,15 @@ module _ (before s : List ℕ) where
   overwrite-starts = record { long = refl; within = omega arith; rest = refl }
 
   module _ (d : List ℕ) (i : ℕ) (o : Overwriting before s d i) where
-    overwrite-step : (v : ℕ) → v ≡ sourceFirst (getD d i 0) (getD s i 0) → i < length d → i < length s → take (i + 1) (set d i v) ++ overwritten (drop (i + 1) (set d i v)) (drop (i + 1) s) ≡ take i d ++ overwritten (drop i d) (drop i s)
+    overwrite-step : (v : ℕ) → v ≡ sourceFirst (getD d i 0) (getD s i 0) → i < length d → i < length s
+        → take (i + 1) (set d i v) ++ overwritten (drop (i + 1) (set d i v)) (drop (i + 1) s) ≡ take i d ++ overwritten (drop i d) (drop i s)
     unfolding overwritten sourceFirst
     overwrite-step v e hd hs =
         let lt : i < suc i = le-refl (suc i) in
         rw (e, add-one, take-suc-set, drop-set-lt, append-snoc, drop-cons d i 0, drop-cons s i 0)
 
-    pub overwrite-turn : (v : ℕ) → v ≡ sourceFirst (getD d i 0) (getD s i 0) → length s ≡ length before → i < length d → Overwriting before s (set d i v) (i + 1)
+    pub overwrite-turn : (v : ℕ) → v ≡ sourceFirst (getD d i 0) (getD s i 0) → length s ≡ length before → i < length d
+        → Overwriting before s (set d i v) (i + 1)
     overwrite-turn v e same h = record {
       long = simp length-set (o .long);
       within = simp length-set (omega arith);
@@ -152,7 +154,9 @@ module _ (allowance : ℕ) (d s : List ℕ) where
 
   pub long-merged : 3 ≤ length d → (n : ℕ) → n ≡ overlaps d s → mergedIf (leb n allowance) d s ≡ merged allowance d s
   unfolding merged
-  long-merged h n e = rw (lt-leb (length d) 2 (omega arith), e, not-more (overlaps d s) allowance (leb (overlaps d s) allowance) refl) (go (leb (overlaps d s) allowance))
+  long-merged h n e = rw
+      (lt-leb (length d) 2 (omega arith), e, not-more (overlaps d s) allowance (leb (overlaps d s) allowance) refl)
+      (go (leb (overlaps d s) allowance))
     where
       go : (b : Bool) → mergedIf b d s ≡ cond (not b) none (some (overwritten d s))
       go true = refl
@@ -172,7 +176,8 @@ module _ (d s : List ℕ) where
   laying-starts out h k = record { long = sym h; same = k ∙ sym h; within = omega arith; rest = refl }
 
   module _ (out : List ℕ) (i : ℕ) (o : Laying d s out i) where
-    laying-step : (v : ℕ) → v ≡ sourceFirst (getD d i 0) (getD s i 0) → i < length out → i < length d → i < length s → take (i + 1) (set out i v) ++ overwritten (drop (i + 1) d) (drop (i + 1) s) ≡ take i out ++ overwritten (drop i d) (drop i s)
+    laying-step : (v : ℕ) → v ≡ sourceFirst (getD d i 0) (getD s i 0) → i < length out → i < length d → i < length s
+        → take (i + 1) (set out i v) ++ overwritten (drop (i + 1) d) (drop (i + 1) s) ≡ take i out ++ overwritten (drop i d) (drop i s)
     unfolding overwritten sourceFirst
     laying-step v e ho hd hs = rw (e, add-one, take-suc-set, append-snoc, drop-cons d i 0, drop-cons s i 0)
 

@@ -4,9 +4,6 @@ ghost use lib.ListN.{length};
 ghost use Rattle.model.specs.Row.{overlaps, overwritten, merged};
 ghost use Rattle.merge.specs.Merging.{bothOf, sourceFirst, mergedIf, MergedAs};
 
-// The overlapping places that a merge of series allows.
-pub const ALLOWED_OVERLAPS: usize = 2;
-
 pub enum Merged {
     Done,
     Overlapping,

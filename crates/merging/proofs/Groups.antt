@@ -3,7 +3,7 @@ use Prim.Native.Nat.{ℕ, suc, _+_, _-_, _*_, _≤_, _<_}
 use mathlib.Core.Path.{_≡_, refl, sym, ap, _∙_}
 use mathlib.Core.Bool.{Bool, true, false}
 use mathlib.Core.Option.{Option, none, some}
-use mathlib.Core.List.{List, [], _∷_}
+use mathlib.Core.List.{List}
 use native.Mathlib.Nat.{sub-zero, mul-le-mul-right, suc-mul}
 use native.Mathlib.Numerals.{add-one}
 use native.Mathlib.Omega.{arith}
@@ -16,16 +16,15 @@ use Rattle.model.specs.Row.{overwritten, merged}
 use Rattle.model.specs.Laws.Row.{overwritten-wide}
 use Rattle.merge.specs.declared.Merged.{Merged}
 use Rattle.merge.specs.declared.Merged.the-variants as M
-use Rattle.merge.specs.Merging.{done, overlapping, refused, doneOr, mergedIf, mergedAlone, MergedAs}
-use Rattle.plan.specs.Keys.{firstOf, lastOf, KeyEnds}
-use Rattle.plan.specs.Laws.Ends.{last-within, ends-within, several-stand}
-use Rattle.plan.specs.Merging.{rowAt, RowMerge, row, failedAt, onRow, mergeGroup, mergeLast, mergeLead}
+use Rattle.merge.specs.Merging.{done, overlapping, refused, doneOr, mergedAlone, MergedAs}
+use Rattle.plan.specs.Keys.{firstOf, lastOf}
+use Rattle.plan.specs.Laws.Ends.{last-within}
+use Rattle.plan.specs.Merging.{RowMerge, row, failedAt, onRow, mergeGroup, mergeLast, mergeLead}
+use Rattle.side_parts.specs.Sides.{rowAt}
 use Rattle.merging.specs.declared.Merges.{Merges}
 use Rattle.merging.specs.declared.Merges.the-variants.{Done, FailedAt}
 use Rattle.merging.specs.Groups.{absorbedOne, thereIf, AbsorbedAs, MergedGroup}
-use Rattle.key_places.specs.Places as Places
-use Rattle.key_places.specs.Planned.{last-places}
-use Rattle.merging.specs.Several.{several-merged}
+use Rattle.merging.specs.Several.{mergeSeveral}
 
 -- `absorb`
 
@@ -45,7 +44,8 @@ module _ (allowance : ℕ) (rows : List ℕ) (x g i : ℕ) (d : List ℕ) where
   pub absorb-other : (x ≡ g → ⊥) → AbsorbedAs allowance rows x g i d d true
   absorb-other h = record { answer = rw (ne-eqb x g h); unmerged = λ e. refl; long = refl }
 
-  module _ (h : x ≡ g) (room : i * length d + length d ≤ length rows) (s : List ℕ) (hs : s ≡ rowAt (length d) rows i) (m : Merged) (d′ : List ℕ) (u : MergedAs allowance d s m d′) (long : length d′ ≡ length d) where
+  module _ (h : x ≡ g) (room : i * length d + length d ≤ length rows) (s : List ℕ) (hs : s ≡ rowAt (length d) rows i) (m : Merged) (d′ : List ℕ)
+      (u : MergedAs allowance d s m d′) (long : length d′ ≡ length d) where
     wide : length d ≡ length s
     wide = sym (ap length hs ∙ length-take-le (length d) (drop (i * length d) rows) (omega (arith, length-drop (i * length d) rows)))
 
@@ -93,11 +93,15 @@ some-there none d refusal f h = absurd (let z : _≡_ {A = ℕ} 0 1 = cc in omeg
 some-there (some e) d refusal f h = let z : e ≡ d = cc in rw z
 
 module _ (allowance : ℕ) (rows groups : List ℕ) (g : ℕ) where
-  group-step : (i n : ℕ) (d : List ℕ) → i < length groups → mergeGroup allowance (length d) rows g i (take (suc n) (drop i groups)) d ≡ onRow (absorbedOne allowance rows (getD groups i 0) g i d) (failedAt i d) (mergeGroup allowance (length d) rows g (suc i) (take n (drop (suc i) groups)))
+  group-step : (i n : ℕ) (d : List ℕ) → i < length groups
+      → mergeGroup allowance (length d) rows g i (take (suc n) (drop i groups)) d
+      ≡ onRow (absorbedOne allowance rows (getD groups i 0) g i d) (failedAt i d)
+      (mergeGroup allowance (length d) rows g (suc i) (take n (drop (suc i) groups)))
   unfolding mergeGroup
   group-step i n d h = rw (drop-cons groups i 0 h) (cases (eqb (getD groups i 0) g) (λ e. rw e) (λ e. rw e))
 
-  pub between-starts : (from to : ℕ) (d : List ℕ) → from ≤ to → Merging-on allowance (length d) rows groups g to from d (mergeGroup allowance (length d) rows g from (take (to - from) (drop from groups)) d)
+  pub between-starts : (from to : ℕ) (d : List ℕ) → from ≤ to
+      → Merging-on allowance (length d) rows groups g to from d (mergeGroup allowance (length d) rows g from (take (to - from) (drop from groups)) d)
   between-starts from to d h = record { within = h; long = refl; rest = refl }
 
   module _ (p to i : ℕ) (d : List ℕ) (want : RowMerge) (inv : Merging-on allowance p rows groups g to i d want) where
@@ -105,7 +109,8 @@ module _ (allowance : ℕ) (rows groups : List ℕ) (g : ℕ) where
       pub between-row : length groups * p ≤ length rows → i * length d + length d ≤ length rows
       between-row room = rw (inv .long) (let z : i * p + p ≤ length groups * p = rw (← suc-mul) (mul-le-mul-right p (omega arith)) in omega arith)
 
-      next : onRow (absorbedOne allowance rows (getD groups i 0) g i d) (failedAt i d) (mergeGroup allowance (length d) rows g (suc i) (take (to - suc i) (drop (suc i) groups))) ≡ want
+      next : onRow (absorbedOne allowance rows (getD groups i 0) g i d) (failedAt i d)
+          (mergeGroup allowance (length d) rows g (suc i) (take (to - suc i) (drop (suc i) groups))) ≡ want
       next =
           let n : to - i ≡ suc (to - suc i) = omega arith in
           sym (group-step i (to - suc i) d (omega arith)) ∙ rw (← n, inv .long) (inv .rest)
@@ -116,13 +121,17 @@ module _ (allowance : ℕ) (rows groups : List ℕ) (g : ℕ) where
             record {
               within = omega arith;
               long = u .long ∙ inv .long;
-              rest = rw (add-one i, ← inv .long) (sym (some-there (absorbedOne allowance rows (getD groups i 0) g i d) d′ (failedAt i d) (mergeGroup allowance (length d) rows g (suc i) (take (to - suc i) (drop (suc i) groups))) (rw e at (u .answer))) ∙ next);
+              rest = rw (add-one i, ← inv .long)
+                  (sym (some-there (absorbedOne allowance rows (getD groups i 0) g i d) d′ (failedAt i d)
+                  (mergeGroup allowance (length d) rows g (suc i) (take (to - suc i) (drop (suc i) groups))) (rw e at (u .answer))) ∙ next);
             }
 
         pub between-failed : r ≡ false → MergedGroup want p d′ (FailedAt i)
         between-failed e =
             record {
-              answer = ap (failedAt i) (u .unmerged e) ∙ sym (none-there (absorbedOne allowance rows (getD groups i 0) g i d) d′ (failedAt i d) (mergeGroup allowance (length d) rows g (suc i) (take (to - suc i) (drop (suc i) groups))) (rw e at (u .answer))) ∙ next;
+              answer = ap (failedAt i) (u .unmerged e) ∙ sym
+                  (none-there (absorbedOne allowance rows (getD groups i 0) g i d) d′ (failedAt i d)
+                  (mergeGroup allowance (length d) rows g (suc i) (take (to - suc i) (drop (suc i) groups))) (rw e at (u .answer))) ∙ next;
               long = u .long ∙ inv .long;
             }
 
@@ -141,9 +150,6 @@ row-long : (i n p : ℕ) (rows : List ℕ) → i < n → n * p ≤ length rows �
 row-long i n p rows h room =
     length-take-le p (drop (i * p) rows) (let z = row-of i n p rows h room in omega (arith, z, length-drop (i * p) rows))
 
-pub last-told : (keys : List ℕ) (k last : ℕ) → last ≡ Places.lastOf keys k → last ≡ lastOf keys k
-last-told keys k last found = found ∙ last-places k keys
-
 module _ (rows keys : List ℕ) (p : ℕ) (room : length keys * p ≤ length rows) where
   module _ (k : ℕ) (h : firstOf keys k < length keys) (last : ℕ) (hl : last ≡ lastOf keys k) where
     within : last < length keys
@@ -161,7 +167,9 @@ module _ (rows keys : List ℕ) (p : ℕ) (room : length keys * p ≤ length row
     pub last-room : (s d : List ℕ) → s ≡ rowAt p rows last → d ≡ s → length keys * length d ≤ length rows
     last-room s d hs hd = let e : length d ≡ p = rw hd (last-long s hs) in rw e room
 
-    pub last-merged : (allowance : ℕ) (s d : List ℕ) → s ≡ rowAt p rows last → d ≡ s → (d′ : List ℕ) (r : Merges) → MergedGroup (mergeGroup allowance (length d) rows k 0 (take (last - 0) (drop 0 keys)) d) (length d) d′ r → MergedGroup (mergeLast allowance p rows keys k) p d′ r
+    pub last-merged : (allowance : ℕ) (s d : List ℕ) → s ≡ rowAt p rows last → d ≡ s → (d′ : List ℕ) (r : Merges)
+        → MergedGroup (mergeGroup allowance (length d) rows k 0 (take (last - 0) (drop 0 keys)) d) (length d) d′ r
+        → MergedGroup (mergeLast allowance p rows keys k) p d′ r
     unfolding mergeLast
     last-merged allowance s d hs hd d′ r m =
         let e : length d ≡ p = rw hd (last-long s hs) in
@@ -177,42 +185,41 @@ module _ (rows keys : List ℕ) (p : ℕ) (room : length keys * p ≤ length row
     pub lead-room : (s d : List ℕ) → s ≡ rowAt p rows o → d ≡ s → length keys * length d ≤ length rows
     lead-room s d hs hd = let e : length d ≡ p = rw hd (lead-long s hs) in rw e room
 
-    pub lead-merged : (allowance : ℕ) (s d : List ℕ) → s ≡ rowAt p rows o → d ≡ s → (d′ : List ℕ) (r : Merges) → MergedGroup (mergeGroup allowance (length d) rows o (o + 1) (take (length keys - (o + 1)) (drop (o + 1) keys)) d) (length d) d′ r → MergedGroup (mergeLead allowance p rows keys o) p d′ r
+    pub lead-merged : (allowance : ℕ) (s d : List ℕ) → s ≡ rowAt p rows o → d ≡ s → (d′ : List ℕ) (r : Merges)
+        → MergedGroup (mergeGroup allowance (length d) rows o (o + 1) (take (length keys - (o + 1)) (drop (o + 1) keys)) d) (length d) d′ r
+        → MergedGroup (mergeLead allowance p rows keys o) p d′ r
     unfolding mergeLead
     lead-merged allowance s d hs hd d′ r m =
         let e : length d ≡ p = rw hd (lead-long s hs) in
-        let t : take (length keys - (o + 1)) (drop (o + 1) keys) ≡ drop (o + 1) keys = take-all (length keys - (o + 1)) (drop (o + 1) keys) (omega (arith, length-drop (o + 1) keys)) in
+        let t : take (length keys - (o + 1)) (drop (o + 1) keys)
+        ≡ drop (o + 1) keys = take-all (length keys - (o + 1)) (drop (o + 1) keys) (omega (arith, length-drop (o + 1) keys)) in
         rw (e, t, add-one o, hd, hs) at m
 
 -- `merge_several`
 
-module _ (rows keys : List ℕ) (p : ℕ) (room : length keys * p ≤ length rows) (k first last : ℕ) (e : KeyEnds keys k first last) (h : first < last) where
-  ends-first : first < length keys
-  ends-first = several-stand keys k first last e h
+module _ (rows keys : List ℕ) (p : ℕ) (room : length keys * p ≤ length rows) (last : ℕ) (h : last < length keys) where
+  pub later-row : last * p + p ≤ length rows
+  later-row = row-of last (length keys) p rows h room
 
-  ends-last : last < length keys
-  ends-last = ends-within keys k first last e ends-first
+  pub later-long : (x : List ℕ) → x ≡ rowAt p rows last → length x ≡ p
+  later-long x hx = rw hx (row-long last (length keys) p rows h room)
 
-  pub ends-last-in : last ≤ length keys
-  ends-last-in = omega (arith, ends-last)
+  module _ (first : ℕ) (before : first < last) where
+    pub earlier-row : first * p + p ≤ length rows
+    earlier-row = row-of first (length keys) p rows (omega arith) room
 
-  -- the row of a place that is not behind the last
+    pub earlier-long : (y : List ℕ) → y ≡ rowAt p rows first → length y ≡ p
+    earlier-long y hy = rw hy (row-long first (length keys) p rows (omega arith) room)
 
-  pub ends-row : (i : ℕ) → i ≤ last → i * p + p ≤ length rows
-  ends-row i hi = row-of i (length keys) p rows (omega (arith, ends-last)) room
-
-  pub ends-long : (i : ℕ) (s : List ℕ) → s ≡ rowAt p rows i → i ≤ last → length s ≡ p
-  ends-long i s hs hi = rw hs (row-long i (length keys) p rows (omega (arith, ends-last)) room)
-
-  -- such a row, written over by another
-  module _ (i : ℕ) (x y d : List ℕ) (hd : d ≡ overwritten x y) (hx : x ≡ rowAt p rows i) (hi : i ≤ last) where
+  -- the later row, written over by the earlier
+  module _ (first : ℕ) (x y d : List ℕ) (hx : x ≡ rowAt p rows last) (hy : y ≡ rowAt p rows first) (hd : d ≡ overwritten x y) where
     several-long : length d ≡ p
-    several-long = ap length hd ∙ overwritten-wide x y ∙ ends-long i x hx hi
+    several-long = ap length hd ∙ overwritten-wide x y ∙ later-long x hx
 
     pub several-room : length keys * length d ≤ length rows
     several-room = rw several-long room
 
-  module _ (x y d : List ℕ) (hx : x ≡ rowAt p rows last) (hy : y ≡ rowAt p rows first) (hd : d ≡ overwritten x y) where
-    pub several-told : (allowance : ℕ) → mergedIf true (rowAt p rows last) (rowAt p rows first) ≡ merged allowance (rowAt p rows last) (rowAt p rows first) → (d′ : List ℕ) (r : Merges) → MergedGroup (mergeGroup allowance (length d) rows k (first + 1) (take (last - (first + 1)) (drop (first + 1) keys)) d) (length d) d′ r → MergedGroup (mergeLast allowance p rows keys k) p d′ r
-    several-told allowance m d′ r g =
-        rw (several-merged allowance p rows k keys first last e h m) (rw (several-long last x y d hd hx (omega arith), add-one first, hd, hx, hy) at g)
+    pub several-told : (allowance : ℕ) (d′ : List ℕ) (r : Merges)
+        → MergedGroup (mergeGroup allowance (length d) rows (getD keys last 0) (first + 1) (take (last - (first + 1)) (drop (first + 1) keys)) d)
+        (length d) d′ r → MergedGroup (mergeSeveral allowance p rows keys first last) p d′ r
+    several-told allowance d′ r g = rw (several-long, add-one first, hd, hx, hy) at g

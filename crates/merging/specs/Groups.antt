@@ -7,7 +7,8 @@ use mathlib.Core.List.{List}
 use lib.Dec.{eqb}
 use lib.ListN.{length}
 use Rattle.model.specs.Row.{merged}
-use Rattle.plan.specs.Merging.{rowAt, RowMerge, row, failedAt}
+use Rattle.plan.specs.Merging.{RowMerge, row, failedAt}
+use Rattle.side_parts.specs.Sides.{rowAt}
 use Rattle.merging.specs.declared.Merges.{Merges}
 use Rattle.merging.specs.declared.Merges.the-variants.{Done, FailedAt}
 

@@ -1,2 +1,4 @@
 pub mod Groups
 pub mod Several
+pub mod Marks
+pub mod MarkLaws

@@ -5,14 +5,21 @@ use mathlib.Core.Bool.{true}
 use mathlib.Core.List.{List, [], _∷_}
 use native.Mathlib.Omega.{arith}
 use lib.Dec.{eqb}
-use lib.ListN.{length, take, drop}
+use lib.ListN.{length, getD, take, drop}
 use lib.Seq.{take-all}
 use Rattle.model.specs.Lists.{cases}
 use Rattle.model.specs.Row.{overwritten, merged}
 use Rattle.merge.specs.Merging.{mergedIf}
 use Rattle.plan.specs.Keys.{firstOf, lastOf, KeyEnds}
-use Rattle.plan.specs.Merging.{rowAt, row, failedAt, onRow, mergeGroup, mergeLast}
-use Rattle.plan.specs.Laws.Ends.{several-stand}
+use Rattle.plan.specs.Merging.{RowMerge, row, failedAt, onRow, mergeGroup, mergeLast}
+use Rattle.side_parts.specs.Sides.{rowAt}
+use Rattle.plan.specs.Laws.Ends.{last-is, several-stand}
+
+-- the row `last` with the row `first` written over it, then those between them of its key merged into it
+abbrev pub mergeSeveral : ℕ → ℕ → List ℕ → List ℕ → ℕ → ℕ → RowMerge
+mergeSeveral allowance p rows keys first last =
+    mergeGroup allowance p rows (getD keys last 0) (suc first) (take (last - suc first) (drop (suc first) keys))
+    (overwritten (rowAt p rows last) (rowAt p rows first))
 
 module _ (allowance p : ℕ) (rows : List ℕ) (k : ℕ) where
   none-merge : (keys : List ℕ) (i : ℕ) (d : List ℕ) → mergeGroup allowance p rows k i (take (firstOf keys k) keys) d ≡ row d
@@ -23,14 +30,17 @@ module _ (allowance p : ℕ) (rows : List ℕ) (k : ℕ) where
   -- a key of one series is its row
   pub single-row : (keys : List ℕ) → firstOf keys k ≡ lastOf keys k → mergeLast allowance p rows keys k ≡ row (rowAt p rows (lastOf keys k))
   unfolding mergeLast
-  single-row keys h = ap (λ n. mergeGroup allowance p rows k 0 (take n keys) (rowAt p rows (lastOf keys k))) (sym h) ∙ none-merge keys 0 (rowAt p rows (lastOf keys k))
+  single-row keys h = ap (λ n. mergeGroup allowance p rows k 0 (take n keys) (rowAt p rows (lastOf keys k))) (sym h)
+      ∙ none-merge keys 0 (rowAt p rows (lastOf keys k))
 
   -- where a key stands nowhere, nothing is merged
   pub none-among : (xs : List ℕ) (i : ℕ) (d : List ℕ) → length xs ≤ firstOf xs k → mergeGroup allowance p rows k i xs d ≡ row d
   none-among xs i d h = ap (λ ys. mergeGroup allowance p rows k i ys d) (sym (take-all (firstOf xs k) xs h)) ∙ none-merge xs i d
 
   -- the first of a key is the first to be merged
-  first-merge : (keys : List ℕ) (f i n : ℕ) (d : List ℕ) → firstOf keys k ≡ f → f < n → f < length keys → (j : ℕ) → j ≡ i + f → mergeGroup allowance p rows k i (take n keys) d ≡ onRow (merged allowance d (rowAt p rows j)) (failedAt j d) (mergeGroup allowance p rows k (suc j) (take (n - suc f) (drop (suc f) keys)))
+  first-merge : (keys : List ℕ) (f i n : ℕ) (d : List ℕ) → firstOf keys k ≡ f → f < n → f < length keys → (j : ℕ) → j ≡ i + f
+      → mergeGroup allowance p rows k i (take n keys) d ≡ onRow (merged allowance d (rowAt p rows j)) (failedAt j d)
+      (mergeGroup allowance p rows k (suc j) (take (n - suc f) (drop (suc f) keys)))
   unfolding firstOf mergeGroup
   first-merge [] f i n d e h w j hj = absurd (omega arith)
   first-merge (x ∷ xs) f i zero d e h w j hj = absurd (omega arith)
@@ -41,13 +51,30 @@ module _ (allowance p : ℕ) (rows : List ℕ) (k : ℕ) where
   first-merge (x ∷ xs) (suc f) i (suc n) d e h w j hj =
       cases (eqb x k)
       (λ y. absurd (let z : 0 ≡ suc f = rw y at e in omega (arith, z)))
-      (λ y. let m : suc n - suc (suc f) ≡ n - suc f = omega arith in rw (y, m) (first-merge xs f (suc i) n d (let z : suc (firstOf xs k) ≡ suc f = rw y at e in omega (arith, z)) (omega arith) (omega arith) j (omega arith)))
+      (λ y. let m : suc n - suc (suc f) ≡ n - suc f = omega arith in rw (y, m)
+      (first-merge xs f (suc i) n d (let z : suc (firstOf xs k) ≡ suc f = rw y at e in omega (arith, z)) (omega arith) (omega arith) j
+      (omega arith)))
 
   module _ (keys : List ℕ) (first last : ℕ) (e : KeyEnds keys k first last) where
     -- several series: the first of them is merged into the last, then those between
-    pub several : first < last → mergeLast allowance p rows keys k ≡ onRow (merged allowance (rowAt p rows last) (rowAt p rows first)) (failedAt first (rowAt p rows last)) (mergeGroup allowance p rows k (suc first) (take (last - suc first) (drop (suc first) keys)))
+    pub several : first < last → mergeLast allowance p rows keys k
+        ≡ onRow (merged allowance (rowAt p rows last) (rowAt p rows first)) (failedAt first (rowAt p rows last))
+        (mergeGroup allowance p rows k (suc first) (take (last - suc first) (drop (suc first) keys)))
     unfolding mergeLast
-    several h = rw (← e .last-place) (first-merge keys first 0 last (rowAt p rows last) (sym (e .first-place)) h (several-stand keys k first last e h) first (omega arith))
+    several h = rw (← e .last-place)
+        (first-merge keys first 0 last (rowAt p rows last) (sym (e .first-place)) h (several-stand keys k first last e h) first (omega arith))
 
-    pub several-merged : first < last → mergedIf true (rowAt p rows last) (rowAt p rows first) ≡ merged allowance (rowAt p rows last) (rowAt p rows first) → mergeLast allowance p rows keys k ≡ mergeGroup allowance p rows k (suc first) (take (last - suc first) (drop (suc first) keys)) (overwritten (rowAt p rows last) (rowAt p rows first))
+    pub several-merged : first < last → mergedIf true (rowAt p rows last) (rowAt p rows first)
+        ≡ merged allowance (rowAt p rows last) (rowAt p rows first)
+        → mergeLast allowance p rows keys k ≡ mergeGroup allowance p rows k (suc first) (take (last - suc first) (drop (suc first) keys))
+        (overwritten (rowAt p rows last) (rowAt p rows first))
     several-merged h m = several h ∙ rw (← m)
+
+    key-at-last : first < last → getD keys last 0 ≡ k
+    key-at-last h = rw (e .last-place) (last-is k keys (rw (← e .first-place) (several-stand keys k first last e h)))
+
+    -- by the places of a key: all its series, where the first of them merges
+    pub several-all : first < last → mergedIf true (rowAt p rows last) (rowAt p rows first)
+        ≡ merged allowance (rowAt p rows last) (rowAt p rows first)
+        → mergeSeveral allowance p rows keys first last ≡ mergeLast allowance p rows keys k
+    several-all h m = rw (key-at-last h) (sym (several-merged h m))

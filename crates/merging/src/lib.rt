@@ -2,13 +2,12 @@
 use merge::Merged;
 ghost use mathlib.Core.Path.{_≡_};
 ghost use Prim.Native.Nat.{_+_, _-_, _*_, _≤_, _<_};
-ghost use mathlib.Core.Bool.{true};
 ghost use lib.ListN.{length, take, drop};
-ghost use Rattle.model.specs.Row.{merged};
-ghost use Rattle.merge.specs.Merging.{mergedIf};
-ghost use Rattle.plan.specs.Keys.{firstOf, KeyEnds};
-ghost use Rattle.plan.specs.Merging.{rowAt, mergeGroup, mergeLast, mergeLead};
+ghost use Rattle.plan.specs.Keys.{firstOf};
+ghost use Rattle.plan.specs.Merging.{mergeGroup, mergeLast, mergeLead};
 ghost use Rattle.merging.specs.Groups.{AbsorbedAs, MergedGroup};
+ghost use Rattle.merging.specs.Several.{mergeSeveral};
+ghost use Rattle.merging.specs.Marks.{leadMarked, leadsMarked};
 
 // Merges the row of series i, whose group is x, if that is g. Says whether the row is merged as it should be.
 fn absorb(rows: &[u64], x: usize, g: usize, i: usize, allowance: usize, dst: &mut [u64]) -> bool
@@ -45,7 +44,8 @@ fn merge_between(
     requires { ⌜ from ≤ to ⌝ }
     requires { ⌜ to ≤ length (now groups) ⌝ }
     requires { ⌜ length (now groups) * length (now dst) ≤ length (now rows) ⌝ }
-    ensures { λ r. ⌜ MergedGroup (mergeGroup allowance (length (now (dst .entry))) (now (rows .entry)) g from (take (to - from) (drop from (now (groups .entry)))) (now (dst .entry))) (length (now (dst .entry))) (now (dst .exit)) r ⌝ }
+    ensures { λ r. ⌜ MergedGroup (mergeGroup allowance (length (now (dst .entry))) (now (rows .entry)) g from
+        (take (to - from) (drop from (now (groups .entry)))) (now (dst .entry))) (length (now (dst .entry))) (now (dst .exit)) r ⌝ }
 {
     let mut i = from;
     while i < to {
@@ -68,29 +68,29 @@ pub fn merge_last(
 ) -> Merges
     requires { ⌜ firstOf (now keys) k < length (now keys) ⌝ }
     requires { ⌜ length (now keys) * length (now dst) ≤ length (now rows) ⌝ }
-    ensures { λ r. ⌜ MergedGroup (mergeLast allowance (length (now (dst .entry))) (now (rows .entry)) (now (keys .entry)) k) (length (now (dst .entry))) (now (dst .exit)) r ⌝ }
+    ensures { λ r. ⌜ MergedGroup (mergeLast allowance (length (now (dst .entry))) (now (rows .entry)) (now (keys .entry)) k)
+        (length (now (dst .entry))) (now (dst .exit)) r ⌝ }
 {
     let p = dst.len();
-    let last = key_places::last_of(keys, k);
+    let last = key_ends::last_of(keys, k);
     answers::copy_row(dst, side_parts::row(rows, p, last));
     merge_between(rows, keys, k, 0, last, allowance, dst)
 }
 
-// The last row of a key of several series, with the earlier ones merged into it. The first is known to merge, so its places are not counted again.
+// The row of a place with an earlier one written over it, then those of its key between the two merged into it, in order.
 pub fn merge_several(
     rows: &[u64],
     keys: &[usize],
-    k: usize,
     first: usize,
     last: usize,
     allowance: usize,
     dst: &mut [u64],
 ) -> Merges
-    requires { ⌜ KeyEnds (now keys) k first last ⌝ }
     requires { ⌜ first < last ⌝ }
-    requires { ⌜ mergedIf true (rowAt (length (now dst)) (now rows) last) (rowAt (length (now dst)) (now rows) first) ≡ merged allowance (rowAt (length (now dst)) (now rows) last) (rowAt (length (now dst)) (now rows) first) ⌝ }
+    requires { ⌜ last < length (now keys) ⌝ }
     requires { ⌜ length (now keys) * length (now dst) ≤ length (now rows) ⌝ }
-    ensures { λ r. ⌜ MergedGroup (mergeLast allowance (length (now (dst .entry))) (now (rows .entry)) (now (keys .entry)) k) (length (now (dst .entry))) (now (dst .exit)) r ⌝ }
+    ensures { λ r. ⌜ MergedGroup (mergeSeveral allowance (length (now (dst .entry))) (now (rows .entry)) (now (keys .entry)) first last)
+        (length (now (dst .entry))) (now (dst .exit)) r ⌝ }
 {
     let p = dst.len();
     merge::put_overwritten(
@@ -98,7 +98,7 @@ pub fn merge_several(
         side_parts::row(rows, p, last),
         side_parts::row(rows, p, first),
     );
-    merge_between(rows, keys, k, first + 1, last, allowance, dst)
+    merge_between(rows, keys, keys[last], first + 1, last, allowance, dst)
 }
 
 // The row that leads a group, with the later ones merged into it.
@@ -111,9 +111,74 @@ pub fn merge_lead(
 ) -> Merges
     requires { ⌜ o < length (now leads) ⌝ }
     requires { ⌜ length (now leads) * length (now dst) ≤ length (now rows) ⌝ }
-    ensures { λ r. ⌜ MergedGroup (mergeLead allowance (length (now (dst .entry))) (now (rows .entry)) (now (leads .entry)) o) (length (now (dst .entry))) (now (dst .exit)) r ⌝ }
+    ensures { λ r. ⌜ MergedGroup (mergeLead allowance (length (now (dst .entry))) (now (rows .entry)) (now (leads .entry)) o)
+        (length (now (dst .entry))) (now (dst .exit)) r ⌝ }
 {
     let p = dst.len();
     answers::copy_row(dst, side_parts::row(rows, p, o));
     merge_between(rows, leads, o, o + 1, leads.len(), allowance, dst)
+}
+
+// The leader of the place i by the marks behind the leader o: o where its bit is set.
+fn lead_marked(marks: &[usize], o: usize, i: usize) -> usize
+    requires { ⌜ o < i ⌝ }
+    requires { ⌜ i ≤ 512 ⌝ }
+    requires { ⌜ 8 ≤ length (now marks) ⌝ }
+    ensures { λ r. ⌜ r ≡ leadMarked (now (marks .entry)) o i ⌝ }
+{
+    let j = i - (o + 1);
+    let word = marks[j / 64];
+    if (word >> (j % 64)) % 2 == 1 {
+        return o;
+    }
+    key_ends::DROPPED
+}
+
+// Merges the rows that are marked behind the leader o, of `count` rows, in order.
+fn merge_marks(
+    rows: &[u64],
+    marks: &[usize],
+    o: usize,
+    count: usize,
+    allowance: usize,
+    dst: &mut [u64],
+) -> Merges
+    requires { ⌜ o < count ⌝ }
+    requires { ⌜ count ≤ 512 ⌝ }
+    requires { ⌜ 8 ≤ length (now marks) ⌝ }
+    requires { ⌜ count * length (now dst) ≤ length (now rows) ⌝ }
+    ensures { λ r. ⌜ MergedGroup (mergeGroup allowance (length (now (dst .entry))) (now (rows .entry)) o (o + 1)
+        (take (count - (o + 1)) (drop (o + 1) (leadsMarked (now (marks .entry)) o 0 count))) (now (dst .entry))) (length (now (dst .entry)))
+        (now (dst .exit)) r ⌝ }
+{
+    let mut i = o + 1;
+    while i < count {
+        if absorb(rows, lead_marked(marks, o, i), o, i, allowance, dst) {
+            i += 1;
+        } else {
+            return Merges::FailedAt(i);
+        }
+    }
+    Merges::Done
+}
+
+// The row that leads a group, with the later ones merged into it that are marked.
+pub fn merge_marked(
+    rows: &[u64],
+    marks: &[usize],
+    o: usize,
+    count: usize,
+    allowance: usize,
+    dst: &mut [u64],
+) -> Merges
+    requires { ⌜ o < count ⌝ }
+    requires { ⌜ count ≤ 512 ⌝ }
+    requires { ⌜ 8 ≤ length (now marks) ⌝ }
+    requires { ⌜ count * length (now dst) ≤ length (now rows) ⌝ }
+    ensures { λ r. ⌜ MergedGroup (mergeLead allowance (length (now (dst .entry))) (now (rows .entry)) (leadsMarked (now (marks .entry)) o 0 count) o)
+        (length (now (dst .entry))) (now (dst .exit)) r ⌝ }
+{
+    let p = dst.len();
+    answers::copy_row(dst, side_parts::row(rows, p, o));
+    merge_marks(rows, marks, o, count, allowance, dst)
 }

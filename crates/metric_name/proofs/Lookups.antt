@@ -2,20 +2,21 @@
 use Prim.Native.Nat.{ℕ, _≤_, _<_, _+_, _-_, _^_}
 use mathlib.Core.Path.{_≡_, refl, sym, ap, _∙_}
 use mathlib.Core.List.{List, []}
-use mathlib.Core.Bool.{Bool, true, false, cond}
-use mathlib.Core.Option.{Option, none, some}
+use mathlib.Core.Bool.{Bool, true, false}
+use mathlib.Core.Option.{Option, some}
 use native.Mathlib.Omega.{arith}
 use mir.Syntax.{w64}
 use mir.Val.{Fits}
 use lib.ListN.{length, take, drop}
 use Rattle.model.specs.Labels.{sameBytes, nameLabel, valueOf}
-use Rattle.model.specs.Record.{Decoded, decoded, cut, badKey, decode, Lookup, present, foundAs, lookupIn, lookup, valuePart}
+use Rattle.model.specs.Record.{Decoded, decoded, cut, badKey, decode, Lookup, foundAs, lookupIn, lookup, valuePart}
 use Rattle.model.specs.Laws.SetTags.{isNone}
 use Rattle.fields.specs.Fields.{fieldAt}
 use Rattle.record_tags.specs.Lenient.{tagsUpTo, labelsOf, labels-decoded}
 use Rattle.record_tags.specs.Cursors.{NextAt, every}
-use Rattle.label_records.specs.Records.{recordOf, refusalOf}
-use Rattle.metric_name.specs.Lookups.{stateOf, stateNumber, FoundAt, valueFrom, lookupAt, ValueWithin, ValueAt}
+use Rattle.label_records.specs.Records as L
+use Rattle.label_records.specs.Records.{behind, recordAnswer, decodedAnswer}
+use Rattle.metric_name.specs.Lookups.{StateAnswer, there, refusal, stateAnswer, lookupAnswer, FoundAt, valueFrom, lookupAt, ValueWithin, ValueAt}
 use Rattle.fields.specs.declared.Place.{Place}
 use Rattle.fields.specs.declared.Place.the-variants.{At, Short}
 use Rattle.record_tags.specs.declared.Next.{Next}
@@ -24,7 +25,6 @@ use Rattle.label_records.specs.declared.Record.{Record}
 use Rattle.label_records.specs.declared.Record.the-variants as R
 use Rattle.metric_name.specs.declared.Value.{Value}
 use Rattle.metric_name.specs.declared.Value.the-variants as Vs
-use Rattle.metric_name.specs.declared.TagState.{TagState}
 use Rattle.metric_name.specs.declared.TagState.the-variants as S
 use Rattle.fields.proofs.Fields.{placed, unplaced, Placed}
 use Rattle.record_tags.proofs.Cursors.{next-stands, next-tags, next-ended}
@@ -86,40 +86,41 @@ found-value s (At a e) o h = record { answer = ap foundAs (h .bytes); within = h
 found-value s Short o h = record { answer = ap foundAs (h .bytes); within = tt }
 
 -- `find_value`
-module _ (k s : List ℕ) (x : Record) (hx : x ≡ recordOf (length s) (decode s)) where
+module _ (k s : List ℕ) (x : Record) (hx : recordAnswer x ≡ decodedAnswer (length s) (decode s)) where
   pub value-cut : x ≡ R.Cut → ValueAt s Vs.Cut (lookup s k)
   unfolding lookup
-  value-cut e = go (decode s) (sym e ∙ hx)
+  value-cut e = go (decode s) (rw e at hx)
     where
-      go : (d : Decoded) → R.Cut ≡ recordOf (length s) d → ValueAt s Vs.Cut (lookupIn k d)
+      go : (d : Decoded) → L.refusal 3 ≡ decodedAnswer (length s) d → ValueAt s Vs.Cut (lookupIn k d)
       go (decoded l r) f = absurd (let z : _≡_ {A = ℕ} 0 1 = cc in omega arith)
       go cut f = record { answer = refl; within = tt }
-      go badKey f = absurd (let z : _≡_ {A = ℕ} 0 1 = cc in omega arith)
+      go badKey f = absurd (let z : _≡_ {A = ℕ} 3 4 = cc in omega arith)
 
   pub value-bad : x ≡ R.BadKey → ValueAt s Vs.BadKey (lookup s k)
   unfolding lookup
-  value-bad e = go (decode s) (sym e ∙ hx)
+  value-bad e = go (decode s) (rw e at hx)
     where
-      go : (d : Decoded) → R.BadKey ≡ recordOf (length s) d → ValueAt s Vs.BadKey (lookupIn k d)
+      go : (d : Decoded) → L.refusal 4 ≡ decodedAnswer (length s) d → ValueAt s Vs.BadKey (lookupIn k d)
       go (decoded l r) f = absurd (let z : _≡_ {A = ℕ} 0 1 = cc in omega arith)
-      go cut f = absurd (let z : _≡_ {A = ℕ} 0 1 = cc in omega arith)
+      go cut f = absurd (let z : _≡_ {A = ℕ} 3 4 = cc in omega arith)
       go badKey f = record { answer = refl; within = tt }
 
-  module _ (q : ℕ) (ex : x ≡ R.Ok q) (t : Bool) (ht : t ≡ sameBytes k nameLabel) (y : Place) (v : Value) (hv : v ≡ valueFrom y) where
+  module _ (q : ℕ) (ex : x ≡ R.Ok q) (t : Bool) (ht : t ≡ sameBytes k nameLabel)
+      (y : Place) (v : Value) (hv : v ≡ valueFrom y) where
     pub value-name : t ≡ true → FoundAt s y (some (labelsOf s .name)) → ValueAt s v (lookup s k)
     unfolding lookup
-    value-name et hy = go (decode s) refl (sym ex ∙ hx)
+    value-name et hy = go (decode s) refl (rw ex at hx)
       where
-        go : (d : Decoded) → decode s ≡ d → R.Ok q ≡ recordOf (length s) d → ValueAt s v (lookupIn k d)
+        go : (d : Decoded) → decode s ≡ d → behind q ≡ decodedAnswer (length s) d → ValueAt s v (lookupIn k d)
         go (decoded l r) h f = rw (hv, ← ht, et, ← labels-decoded s l r h) (found-value s y (some (labelsOf s .name)) hy)
         go cut h f = absurd (let z : _≡_ {A = ℕ} 0 1 = cc in omega arith)
         go badKey h f = absurd (let z : _≡_ {A = ℕ} 0 1 = cc in omega arith)
 
     pub value-tag : t ≡ false → FoundAt s y (valueOf k (labelsOf s .tags)) → ValueAt s v (lookup s k)
     unfolding lookup
-    value-tag et hy = go (decode s) refl (sym ex ∙ hx)
+    value-tag et hy = go (decode s) refl (rw ex at hx)
       where
-        go : (d : Decoded) → decode s ≡ d → R.Ok q ≡ recordOf (length s) d → ValueAt s v (lookupIn k d)
+        go : (d : Decoded) → decode s ≡ d → behind q ≡ decodedAnswer (length s) d → ValueAt s v (lookupIn k d)
         go (decoded l r) h f = rw (hv, ← ht, et, ← labels-decoded s l r h) (found-value s y (valueOf k (labelsOf s .tags)) hy)
         go cut h f = absurd (let z : _≡_ {A = ℕ} 0 1 = cc in omega arith)
         go badKey h f = absurd (let z : _≡_ {A = ℕ} 0 1 = cc in omega arith)
@@ -151,76 +152,36 @@ module _ (s : List ℕ) (o : Lookup) (x : Value) (h : ValueAt s x o) where
   pub bad-bytes : x ≡ Vs.BadKey → [] ≡ valuePart o
   bad-bytes ex = no-bytes (rw ex)
 
--- `tag_state`: the answer, and its number
-stateFrom : Value → TagState
-stateFrom (Vs.At a e) = S.Present
-stateFrom Vs.Absent = S.Absent
-stateFrom Vs.Cut = S.Cut
-stateFrom Vs.BadKey = S.BadKey
+-- `tag_state`
+valueAnswer : Value → StateAnswer
+valueAnswer (Vs.At a e) = there true
+valueAnswer Vs.Absent = there false
+valueAnswer Vs.Cut = refusal 3
+valueAnswer Vs.BadKey = refusal 4
 
-module _ (s k : List ℕ) (x : Value) (h : ValueAt s x (lookup s k)) where
-  state-of : stateFrom x ≡ stateOf (lookup s k)
-  unfolding stateFrom
-  state-of = go x ∙ ap stateOf (h .answer)
+module _ (s : List ℕ) (o : Lookup) (x : Value) (h : ValueAt s x o) where
+  answer-of : valueAnswer x ≡ lookupAnswer o
+  unfolding valueAnswer
+  answer-of = go x ∙ ap lookupAnswer (h .answer)
     where
-      go : (x : Value) → stateFrom x ≡ stateOf (lookupAt s x)
+      go : (x : Value) → valueAnswer x ≡ lookupAnswer (lookupAt s x)
       go (Vs.At a e) = refl
       go Vs.Absent = refl
       go Vs.Cut = refl
       go Vs.BadKey = refl
 
-  number-of : stateNumber (stateOf (lookup s k)) ≡ refusalOf (decode s)
-  unfolding lookup
-  number-of = go (decode s)
-    where
-      unrefused : (o : Option (List ℕ)) → stateNumber (stateOf (foundAs o)) ≡ 0
-      unrefused none = refl
-      unrefused (some v) = refl
+  pub present-state : (a e : ℕ) → x ≡ Vs.At a e → stateAnswer S.Present ≡ lookupAnswer o
+  unfolding valueAnswer
+  present-state a e ex = rw ex at answer-of
 
-      found : (b : Bool) (x : List ℕ) (o : Option (List ℕ)) → stateNumber (stateOf (cond b (present x) (foundAs o))) ≡ 0
-      found true x o = refl
-      found false x o = unrefused o
+  pub absent-state : x ≡ Vs.Absent → stateAnswer S.Absent ≡ lookupAnswer o
+  unfolding valueAnswer
+  absent-state ex = rw ex at answer-of
 
-      go : (d : Decoded) → stateNumber (stateOf (lookupIn k d)) ≡ refusalOf d
-      go (decoded l r) = found (sameBytes k nameLabel) (l .name) (valueOf k (l .tags))
-      go cut = refl
-      go badKey = refl
+  pub cut-state : x ≡ Vs.Cut → stateAnswer S.Cut ≡ lookupAnswer o
+  unfolding valueAnswer
+  cut-state ex = rw ex at answer-of
 
-  module _ (z : TagState) (e : stateFrom x ≡ z) where
-    stated : z ≡ stateOf (lookup s k)
-    stated = sym e ∙ state-of
-
-    numbered : stateNumber z ≡ refusalOf (decode s)
-    numbered = ap stateNumber stated ∙ number-of
-
-  pub present-state : (a e : ℕ) → x ≡ Vs.At a e → S.Present ≡ stateOf (lookup s k)
-  unfolding stateFrom
-  present-state a e ex = stated S.Present (rw ex)
-
-  pub present-number : (a e : ℕ) → x ≡ Vs.At a e → stateNumber S.Present ≡ refusalOf (decode s)
-  unfolding stateFrom
-  present-number a e ex = numbered S.Present (rw ex)
-
-  pub absent-state : x ≡ Vs.Absent → S.Absent ≡ stateOf (lookup s k)
-  unfolding stateFrom
-  absent-state ex = stated S.Absent (rw ex)
-
-  pub absent-number : x ≡ Vs.Absent → stateNumber S.Absent ≡ refusalOf (decode s)
-  unfolding stateFrom
-  absent-number ex = numbered S.Absent (rw ex)
-
-  pub cut-state : x ≡ Vs.Cut → S.Cut ≡ stateOf (lookup s k)
-  unfolding stateFrom
-  cut-state ex = stated S.Cut (rw ex)
-
-  pub cut-number : x ≡ Vs.Cut → stateNumber S.Cut ≡ refusalOf (decode s)
-  unfolding stateFrom
-  cut-number ex = numbered S.Cut (rw ex)
-
-  pub bad-state : x ≡ Vs.BadKey → S.BadKey ≡ stateOf (lookup s k)
-  unfolding stateFrom
-  bad-state ex = stated S.BadKey (rw ex)
-
-  pub bad-number : x ≡ Vs.BadKey → stateNumber S.BadKey ≡ refusalOf (decode s)
-  unfolding stateFrom
-  bad-number ex = numbered S.BadKey (rw ex)
+  pub bad-state : x ≡ Vs.BadKey → stateAnswer S.BadKey ≡ lookupAnswer o
+  unfolding valueAnswer
+  bad-state ex = rw ex at answer-of

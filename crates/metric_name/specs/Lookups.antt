@@ -1,6 +1,7 @@
 -- What tag lookup answers, and 01's numbers for it. Assumes nothing.
 use Prim.Native.Nat.{ℕ, _-_, _≤_}
 use mathlib.Core.Path.{_≡_}
+use mathlib.Core.Bool.{Bool, true, false}
 use mathlib.Core.Option.{Option, none, some}
 use mathlib.Core.List.{List}
 use lib.ListN.{length, take, drop}
@@ -12,19 +13,24 @@ use Rattle.metric_name.specs.declared.Value.the-variants as Vs
 use Rattle.metric_name.specs.declared.TagState.{TagState}
 use Rattle.metric_name.specs.declared.TagState.the-variants.{Present, Absent, Cut, BadKey}
 
--- 01: One function answers 3 or 4 for a bad record, else present or absent.
-abbrev pub stateOf : Lookup → TagState
-stateOf (present v) = Present
-stateOf absent = Absent
-stateOf inCut = Cut
-stateOf inBad = BadKey
+-- whether a label is there, or 01's number
+pub data StateAnswer : Type 0 where
+  there : Bool → StateAnswer
+  refusal : ℕ → StateAnswer
 
--- 01's number of an answer, 0 where nothing is refused
-abbrev pub stateNumber : TagState → ℕ
-stateNumber Present = 0
-stateNumber Absent = 0
-stateNumber Cut = 3
-stateNumber BadKey = 4
+-- the code's answers. 01: One function answers 3 or 4 for a bad record, else present or absent.
+abbrev pub stateAnswer : TagState → StateAnswer
+stateAnswer Present = there true
+stateAnswer Absent = there false
+stateAnswer Cut = refusal 3
+stateAnswer BadKey = refusal 4
+
+-- the answer for what lookup finds
+abbrev pub lookupAnswer : Lookup → StateAnswer
+lookupAnswer (present v) = there true
+lookupAnswer absent = there false
+lookupAnswer inCut = refusal 3
+lookupAnswer inBad = refusal 4
 
 -- the bytes at a place
 abbrev pub bytesAt : List ℕ → Place → Option (List ℕ)

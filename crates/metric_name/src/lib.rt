@@ -7,11 +7,10 @@ ghost use mathlib.Core.Path.{_≡_};
 ghost use mathlib.Core.Bool.{true};
 ghost use mathlib.Core.Option.{some};
 ghost use Rattle.model.specs.Labels.{valueOf};
-ghost use Rattle.model.specs.Record.{decode, lookup, valuePart};
+ghost use Rattle.model.specs.Record.{lookup, valuePart};
 ghost use Rattle.model.specs.Laws.SetTags.{isNone};
-ghost use Rattle.label_records.specs.Records.{refusalOf};
 ghost use Rattle.record_tags.specs.Lenient.{labelsOf};
-ghost use Rattle.metric_name.specs.Lookups.{FoundAt, ValueAt, valueFrom, stateOf, stateNumber};
+ghost use Rattle.metric_name.specs.Lookups.{FoundAt, ValueAt, valueFrom, stateAnswer, lookupAnswer};
 
 // Where a record's name stands.
 fn find_name(rec: &[u8]) -> Place
@@ -106,8 +105,7 @@ pub enum TagState {
 }
 
 pub fn tag_state(labels: &[u8], key: &[u8]) -> TagState
-    ensures { λ r. ⌜ r ≡ stateOf (lookup (now (labels .entry)) (now (key .entry))) ⌝ }
-    ensures { λ r. ⌜ stateNumber r ≡ refusalOf (decode (now (labels .entry))) ⌝ }
+    ensures { λ r. ⌜ stateAnswer r ≡ lookupAnswer (lookup (now (labels .entry)) (now (key .entry))) ⌝ }
 {
     match find_value(labels, key) {
         Value::At { start: _, end: _ } => TagState::Present,

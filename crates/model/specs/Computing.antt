@@ -1,4 +1,5 @@
--- What opens for the definitions to compute on numerals: a declaration with `computing` on its `unfolding` line sees through all that it names. Assumes nothing.
+-- What opens for the definitions to compute on numerals: a declaration with `computing` on its `unfolding` line sees through all that it
+-- names. Assumes nothing.
 use lib.Ieee.{nanBits, toBits, ofBits, add, sub, mul, div, rem, lt, le, eq}
 use Rattle.model.specs.Reading.{missing, calculated, equals, holds, compared, scalarOp}
 use Rattle.model.specs.Row.{onlyMissing, zipWith, overlaps, overwritten, merged}

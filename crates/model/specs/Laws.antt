@@ -7,5 +7,6 @@ pub mod Edits
 pub mod SetTags
 pub mod Query
 pub mod Row
+pub mod Zipping
 pub mod Vector
 pub mod Faults

@@ -19,3 +19,7 @@ maxListed = 32
 
 abbrev pub maxLabelBytes : ℕ
 maxLabelBytes = 65535
+
+-- the bytes of a vector's sizes, at the start of its label part
+abbrev pub sizesLength : ℕ
+sizesLength = 6

@@ -3,7 +3,8 @@ use Prim.Native.Nat.{ℕ}
 use mathlib.Core.Bool.{Bool, true, false, not, cond}
 use lib.Ieee.{binary64, ofBits, toBits, nanBits, add, sub, mul, div, rem, lt, le, eq}
 use Rattle.operator.specs.declared.Operator.{Operator}
-use Rattle.operator.specs.Kinds.{Arithmetic, sum, difference, product, quotient, remainder, Comparison, equal, unequal, less, atMost, greater, atLeast, Kind, arithmetic, comparison, setRule, fallback, notCarried, kindOf}
+use Rattle.operator.specs.Kinds.{Arithmetic, sum, difference, product, quotient, remainder, Comparison, equal, unequal, less, atMost, greater}
+use Rattle.operator.specs.Kinds.{atLeast, Kind, arithmetic, comparison, setRule, fallback, notCarried, kindOf}
 
 -- 01: "Missing", written N, is any NaN.
 unfoldable pub missing : ℕ → Bool

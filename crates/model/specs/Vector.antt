@@ -5,7 +5,7 @@ use mathlib.Core.Bool.{_&&_, cond}
 use mathlib.Core.List.{List, [], _∷_, _++_, map}
 use lib.Dec.{leb, eqb}
 use lib.ListN.{length, getD, take, drop}
-use Rattle.model.specs.Limits.{maxSeries, maxPoints, maxTags, maxLabelBytes}
+use Rattle.model.specs.Limits.{maxSeries, maxPoints, maxTags, maxLabelBytes, sizesLength}
 use Rattle.model.specs.Lists.{All}
 use Rattle.model.specs.Labels.{Labels, WellFormed}
 use Rattle.model.specs.Record.{Decoded, decoded, cut, badKey, decode, encode}
@@ -88,14 +88,16 @@ withReadings side n shape readings (badRecord k i) = faulty k side i
 -- 01: 3, sizes cut or above a limit, a label array not of its stated length (place 0)
 abbrev pub withSizes : ℕ → ℕ → Shape → ℕ → List ℕ → List ℕ → TakenVector
 withSizes side n shape size array readings =
-    cond (leb n maxSeries && (leb (shape .points) maxPoints && eqb (length array) size)) (withReadings side n shape readings (recordsIn n 0 array)) (faulty 3 side 0)
+    cond (leb n maxSeries && (leb (shape .points) maxPoints && eqb (length array) size)) (withReadings side n shape readings (recordsIn n 0 array))
+    (faulty 3 side 0)
 
 abbrev pub twoBytesAt : List ℕ → ℕ → ℕ
 twoBytesAt s i = getD s i 0 + 256 * getD s (suc i) 0
 
 unfoldable pub takeVector : ℕ → List ℕ → List ℕ → TakenVector
 takeVector side s readings =
-    cond (leb 6 (length s)) (withSizes side (twoBytesAt s 0) (record { points = twoBytesAt s 2 }) (twoBytesAt s 4) (drop 6 s) readings) (faulty 3 side 0)
+    cond (leb sizesLength (length s))
+    (withSizes side (twoBytesAt s 0) (record { points = twoBytesAt s 2 }) (twoBytesAt s 4) (drop sizesLength s) readings) (faulty 3 side 0)
 
 -- what a valid vector is
 

@@ -1,14 +1,16 @@
 -- What the export leaves is what the call is to come to. Assumes nothing.
 use Prim.Native.Nat.{ℕ}
-use mathlib.Core.Path.{_≡_, refl, ap, _∙_}
+use mathlib.Core.Path.{_≡_, sym, ap, _∙_}
 use mathlib.Core.List.{List, [], _∷_}
 use lib.Seq.{sets}
 use Rattle.semantics.specs.Call as Call
 use Rattle.answers.specs.declared.Outcome.{Outcome}
+use Rattle.answers.specs.declared.Told.{Told}
 use Rattle.answers.specs.Outcomes.{told, Ran}
 use Rattle.nosingcatnip.specs.Reports.{numbersOf, Reported}
 
-pub reported : (want : Call.Outcome) (labels₀ out₀ labels out : List ℕ) (r : Outcome) (before result : List ℕ) → Ran want labels₀ out₀ labels out r → result ≡ sets before 0 (numbersOf (told r)) → Reported want labels₀ out₀ labels out before result
+pub reported : (want : Call.Outcome) (labels₀ out₀ labels out : List ℕ) (r : Outcome) (before result : List ℕ) → Ran want labels₀ out₀ labels out r
+    → result ≡ sets before 0 (numbersOf (told r)) → Reported want labels₀ out₀ labels out before result
 reported want labels₀ out₀ labels out r before result k e = record {
   numbers = e ∙ ap (λ t. sets before 0 (numbersOf t)) (k .outcome);
   labelPart = k .labelPart;
@@ -16,5 +18,5 @@ reported want labels₀ out₀ labels out r before result k e = record {
 }
 
 -- `report`
-pub told-by : (o p : Outcome) → o ≡ p → (before l : List ℕ) → l ≡ sets before 0 (numbersOf (told p)) → l ≡ sets before 0 (numbersOf (told o))
-told-by o p e before l h = h ∙ rw e
+pub told-by : (t w : Told) → t ≡ w → (x : Told) → t ≡ x → (before l : List ℕ) → l ≡ sets before 0 (numbersOf x) → l ≡ sets before 0 (numbersOf w)
+told-by t w e x f before l h = h ∙ ap (λ y. sets before 0 (numbersOf y)) (sym f ∙ e)

@@ -4,11 +4,13 @@ use mathlib.Core.Path.{_≡_}
 use mathlib.Core.List.{List, [], _∷_}
 use lib.Seq.{sets}
 use Rattle.semantics.specs.Call as Call
-use Rattle.answers.specs.Outcomes.{Told, answer, refusal, wanted, labelsAfter, readingsAfter}
+use Rattle.answers.specs.declared.Told.{Told}
+use Rattle.answers.specs.declared.Told.the-variants.{Answer, Refusal}
+use Rattle.answers.specs.Outcomes.{wanted, labelsAfter, readingsAfter}
 
 abbrev pub numbersOf : Told → List ℕ
-numbersOf (answer series points bytes) = 0 ∷ 0 ∷ 0 ∷ series ∷ points ∷ bytes ∷ []
-numbersOf (refusal number first second) = number ∷ first ∷ second ∷ 0 ∷ 0 ∷ 0 ∷ []
+numbersOf (Answer series points bytes) = 0 ∷ 0 ∷ 0 ∷ series ∷ points ∷ bytes ∷ []
+numbersOf (Refusal number first second) = number ∷ first ∷ second ∷ 0 ∷ 0 ∷ 0 ∷ []
 
 -- a call that is to come to `want` stores its six numbers in the result, which has six places, and leaves in the output parts what `want` says
 pub record Reported (want : Call.Outcome) (labels₀ out₀ labels out before result : List ℕ) : Type 0 where

@@ -10,15 +10,14 @@ ghost use Rattle.model.specs.Record.{encode};
 ghost use Rattle.record_tags.specs.Lenient.{labelsOf};
 ghost use Rattle.writing.specs.Written.{Put};
 ghost use Rattle.kept_labels.specs.Edited.{Sized};
-ghost use Rattle.semantics.specs.Binop.{adjustBinaryOpTags};
-ghost use Rattle.one_to_one.specs.adjusted_labels.Edits.{queryBy, keepsName, InOrder};
+ghost use Rattle.one_to_one.specs.adjusted_labels.Edits.{pairQuery, keepsName, edited};
 
 // Whether an edited left label keeps its name.
 fn keeps_name(q: Query, names: &[u8]) -> bool
-    ensures { λ r. ⌜ r ≡ keepsName (queryBy (now (names .entry)) q) ⌝ }
+    ensures { λ r. ⌜ r ≡ keepsName (pairQuery (now (names .entry)) q) ⌝ }
 {
     let matching = q.matching;
-    if metric_group::should_reset_metric_group(q) {
+    if query::should_reset_metric_group(q) {
         return false;
     }
     match matching {
@@ -36,8 +35,7 @@ fn keeps_name(q: Query, names: &[u8]) -> bool
 
 // The size of a left record once it is edited.
 pub(crate) fn adjusted_size(rec: &[u8], q: Query, names: &[u8]) -> Size
-    requires { ⌜ InOrder (labelsOf (now rec)) ⌝ }
-    ensures { λ r. ⌜ Sized (adjustBinaryOpTags (queryBy (now (names .entry)) q) (labelsOf (now (rec .entry)))) r ⌝ }
+    ensures { λ r. ⌜ Sized (edited (pairQuery (now (names .entry)) q) (labelsOf (now (rec .entry)))) r ⌝ }
 {
     let matching = q.matching;
     let keep = keeps_name(q, names);
@@ -52,9 +50,11 @@ pub(crate) fn adjust_binary_op_tags(
     q: Query,
     names: &[u8],
 ) -> usize
-    requires { ⌜ InOrder (labelsOf (now rec)) ⌝ }
-    requires { ⌜ at + length (encode (adjustBinaryOpTags (queryBy (now names) q) (labelsOf (now rec)))) ≤ length (now out) ⌝ }
-    ensures { λ r. ⌜ Put (now (out .entry)) at (encode (adjustBinaryOpTags (queryBy (now (names .entry)) q) (labelsOf (now (rec .entry))))) (now (out .exit)) r ⌝ }
+    requires { ⌜ at + length (encode (edited (pairQuery (now names) q) (labelsOf (now rec)))) ≤ length (now out) ⌝ }
+    ensures { λ r. ⌜
+        Put (now (out .entry)) at (encode (edited (pairQuery (now (names .entry)) q) (labelsOf (now (rec .entry)))))
+        (now (out .exit)) r
+        ⌝ }
 {
     let matching = q.matching;
     let keep = keeps_name(q, names);

@@ -8,8 +8,9 @@ ghost use lib.ListN.{length, getD};
 ghost use Rattle.plan.specs.Keys.{firstOf, KeyEnds};
 ghost use Rattle.plan.specs.Merging.{mergeLast};
 ghost use Rattle.plan.specs.Pairs.{pairClash, pairsClash};
-ghost use Rattle.end_codes.specs.Codes.{CodeOf, PairEnds};
-ghost use Rattle.one_to_one.specs.pairs.Pairing.{sidesOf, Level, PairSides, failureOf};
+ghost use Rattle.side_parts.specs.Lent.{RowsHeld, unlabelled, BothRowsHeld, Sides};
+ghost use Rattle.key_ends.specs.end_codes.Codes.{CodeOf, PairEnds};
+ghost use Rattle.one_to_one.specs.pairs.Pairing.{failureOf};
 ghost use Rattle.one_to_one.specs.pair_checks.Checks.{failedIn, clashIn, clashAt};
 
 // The series of a key merged in a work row.
@@ -21,7 +22,7 @@ fn try_last(
     allowance: usize,
     work: &mut [u64],
 ) -> Merges
-    requires { ⌜ Level p (now rows) (now keys) ⌝ }
+    requires { ⌜ RowsHeld p (now rows) (now keys) ⌝ }
     requires { ⌜ firstOf (now keys) k < length (now keys) ⌝ }
     requires { ⌜ p ≤ length (now work) ⌝ }
     ensures { λ r. ⌜ failedIn r ≡ failureOf (mergeLast allowance p (now (rows .entry)) (now (keys .entry)) k) ⌝ }
@@ -29,7 +30,8 @@ fn try_last(
     merging::merge_last(rows, keys, k, allowance, &mut work[..p])
 }
 
-// Whether several series of a key become a single one: the first is tried on the last with no copy, and only where others stand between them are all merged in a work row.
+// Whether several series of a key become a single one: the first is tried on the last with no copy, and only where others stand between
+// them are all merged in a work row.
 fn ensure_merges(
     rows: &[u64],
     keys: &[usize],
@@ -39,7 +41,7 @@ fn ensure_merges(
     p: usize,
     allowance: usize,
 ) -> Merges
-    requires { ⌜ Level p (now rows) (now keys) ⌝ }
+    requires { ⌜ RowsHeld p (now rows) (now keys) ⌝ }
     requires { ⌜ KeyEnds (now keys) k first last ⌝ }
     requires { ⌜ first < last ⌝ }
     ensures { λ r. ⌜ failedIn r ≡ failureOf (mergeLast allowance p (now (rows .entry)) (now (keys .entry)) k) ⌝ }
@@ -64,7 +66,7 @@ fn ensure_single_timeseries(
     p: usize,
     allowance: usize,
 ) -> Merges
-    requires { ⌜ Level p (now rows) (now keys) ⌝ }
+    requires { ⌜ RowsHeld p (now rows) (now keys) ⌝ }
     requires { ⌜ KeyEnds (now keys) k first last ⌝ }
     ensures { λ r. ⌜ failedIn r ≡ failureOf (mergeLast allowance p (now (rows .entry)) (now (keys .entry)) k) ⌝ }
 {
@@ -83,31 +85,39 @@ pub(crate) enum Checked {
 
 // Both sides of a key, the left one first.
 fn check_pair(
-    left: &[u64],
-    lkeys: &[usize],
-    right: &[u64],
-    rkeys: &[usize],
+    allowance: usize,
+    p: usize,
+    keys: [&[usize]; 2],
+    rows: [&[u64]; 2],
     k: usize,
     c: usize,
-    p: usize,
-    allowance: usize,
 ) -> Checked
-    requires { ⌜ PairSides p (now left) (now lkeys) (now right) (now rkeys) ⌝ }
-    requires { ⌜ CodeOf (now lkeys) (now rkeys) k c ⌝ }
-    requires { ⌜ firstOf (now lkeys) k < length (now lkeys) ⌝ }
-    requires { ⌜ firstOf (now rkeys) k < length (now rkeys) ⌝ }
-    ensures { λ r. ⌜ clashIn r ≡ pairClash allowance (sidesOf p (now (left .entry)) (now (lkeys .entry)) (now (right .entry)) (now (rkeys .entry))) k ⌝ }
+    ghost { Sides }
+    requires { λ s. ⌜ unlabelled p keys rows ≡ s ⌝ }
+    requires { λ s. ⌜ BothRowsHeld s ⌝ }
+    requires { λ s. ⌜ CodeOf (s .left .keys) (s .right .keys) k c ⌝ }
+    requires { λ s. ⌜ firstOf (s .left .keys) k < length (s .left .keys) ⌝ }
+    requires { λ s. ⌜ firstOf (s .right .keys) k < length (s .right .keys) ⌝ }
+    ensures { λ s r. ⌜ clashIn r ≡ pairClash allowance s k ⌝ }
 {
-    let last = end_codes::left_last(c);
-    match ensure_single_timeseries(left, lkeys, k, end_codes::left_first(c), last, p, allowance) {
+    let last = key_ends::left_last(c);
+    match ensure_single_timeseries(
+        rows[0],
+        keys[0],
+        k,
+        key_ends::left_first(c),
+        last,
+        p,
+        allowance,
+    ) {
         Merges::FailedAt(failed) => Checked::Left { kept: last, failed },
         Merges::Done => {
-            let last = end_codes::right_last(c);
+            let last = key_ends::right_last(c);
             match ensure_single_timeseries(
-                right,
-                rkeys,
+                rows[1],
+                keys[1],
                 k,
-                end_codes::right_first(c),
+                key_ends::right_first(c),
                 last,
                 p,
                 allowance,
@@ -121,22 +131,23 @@ fn check_pair(
 
 // The merges of the answer series that a left place gives, if it gives one.
 fn check_at(
-    left: &[u64],
-    lkeys: &[usize],
-    right: &[u64],
-    rkeys: &[usize],
+    allowance: usize,
+    p: usize,
+    keys: [&[usize]; 2],
+    rows: [&[u64]; 2],
     ends: &[usize],
     i: usize,
-    p: usize,
-    allowance: usize,
 ) -> Checked
-    requires { ⌜ PairSides p (now left) (now lkeys) (now right) (now rkeys) ⌝ }
-    requires { ⌜ PairEnds (now lkeys) (now rkeys) (now ends) ⌝ }
-    requires { ⌜ i < length (now lkeys) ⌝ }
-    ensures { λ r. ⌜ clashIn r ≡ clashAt allowance (sidesOf p (now (left .entry)) (now (lkeys .entry)) (now (right .entry)) (now (rkeys .entry))) i (getD (now (lkeys .entry)) i 0) ⌝ }
+    ghost { Sides }
+    requires { λ s. ⌜ unlabelled p keys rows ≡ s ⌝ }
+    requires { λ s. ⌜ BothRowsHeld s ⌝ }
+    requires { λ s. ⌜ PairEnds (s .left .keys) (s .right .keys) (now ends) ⌝ }
+    requires { λ s. ⌜ i < length (s .left .keys) ⌝ }
+    ensures { λ s r. ⌜ clashIn r ≡ clashAt allowance s i (getD (s .left .keys) i 0) ⌝ }
 {
-    if pairs::is_pair(lkeys, rkeys, ends, i) {
-        check_pair(left, lkeys, right, rkeys, lkeys[i], ends[i], p, allowance)
+    let lkeys = keys[0];
+    if pairs::is_pair(lkeys, keys[1], ends, i) {
+        check_pair(allowance, p, keys, rows, lkeys[i], ends[i])
     } else {
         Checked::Fine
     }
@@ -144,21 +155,22 @@ fn check_at(
 
 // Every merge, in answer order, up to the first that fails.
 pub(crate) fn check_pairs(
-    left: &[u64],
-    lkeys: &[usize],
-    right: &[u64],
-    rkeys: &[usize],
-    ends: &[usize],
-    p: usize,
     allowance: usize,
+    p: usize,
+    keys: [&[usize]; 2],
+    rows: [&[u64]; 2],
+    ends: &[usize],
 ) -> Checked
-    requires { ⌜ PairSides p (now left) (now lkeys) (now right) (now rkeys) ⌝ }
-    requires { ⌜ PairEnds (now lkeys) (now rkeys) (now ends) ⌝ }
-    ensures { λ r. ⌜ clashIn r ≡ pairsClash allowance (sidesOf p (now (left .entry)) (now (lkeys .entry)) (now (right .entry)) (now (rkeys .entry))) 0 (now (lkeys .entry)) ⌝ }
+    ghost { Sides }
+    requires { λ s. ⌜ unlabelled p keys rows ≡ s ⌝ }
+    requires { λ s. ⌜ BothRowsHeld s ⌝ }
+    requires { λ s. ⌜ PairEnds (s .left .keys) (s .right .keys) (now ends) ⌝ }
+    ensures { λ s r. ⌜ clashIn r ≡ pairsClash allowance s 0 (s .left .keys) ⌝ }
 {
+    let lkeys = keys[0];
     let mut i: usize = 0;
     while i < lkeys.len() {
-        match check_at(left, lkeys, right, rkeys, ends, i, p, allowance) {
+        match check_at(allowance, p, keys, rows, ends, i) {
             Checked::Fine => {
                 i += 1;
             }

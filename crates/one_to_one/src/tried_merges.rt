@@ -6,7 +6,7 @@ ghost use lib.ListN.{length, take, drop};
 ghost use Rattle.model.specs.Row.{merged};
 ghost use Rattle.merge.specs.Merging.{mergedIf};
 ghost use Rattle.plan.specs.Keys.{firstOf};
-ghost use Rattle.plan.specs.Merging.{rowAt};
+ghost use Rattle.side_parts.specs.Sides.{rowAt};
 
 // Whether a key stands between two places.
 pub(crate) fn stands_between(keys: &[usize], k: usize, from: usize, to: usize) -> bool
@@ -14,14 +14,17 @@ pub(crate) fn stands_between(keys: &[usize], k: usize, from: usize, to: usize) -
     requires { ⌜ to ≤ length (now keys) ⌝ }
     ensures { λ r. ⌜ r ≡ ltb (firstOf (take (to - from) (drop from (now (keys .entry)))) k) (to - from) ⌝ }
 {
-    key_places::first_of(&keys[from..to], k) < to - from
+    key_ends::first_of(&keys[from..to], k) < to - from
 }
 
 // Whether the row of one series merges into that of another; nothing is written.
 pub(crate) fn row_merges(rows: &[u64], p: usize, into: usize, from: usize, allowance: usize) -> bool
     requires { ⌜ into * p + p ≤ length (now rows) ⌝ }
     requires { ⌜ from * p + p ≤ length (now rows) ⌝ }
-    ensures { λ r. ⌜ mergedIf r (rowAt p (now (rows .entry)) into) (rowAt p (now (rows .entry)) from) ≡ merged allowance (rowAt p (now (rows .entry)) into) (rowAt p (now (rows .entry)) from) ⌝ }
+    ensures { λ r. ⌜
+        mergedIf r (rowAt p (now (rows .entry)) into) (rowAt p (now (rows .entry)) from) ≡ merged allowance
+        (rowAt p (now (rows .entry)) into) (rowAt p (now (rows .entry)) from)
+        ⌝ }
 {
     merge::merges(
         side_parts::row(rows, p, into),

@@ -12,7 +12,8 @@ use lib.ListN.{length, getD}
 use types.Run.{OneOf}
 use denote.Enum.Declared.{tagOf}
 use Rattle.operator.specs.declared.Operator.{Operator}
-use Rattle.operator.specs.declared.Operator.the-variants.{Add, And, Atan2, Default, Div, Eql, Mod, Mul, Pow, Sub, Gt, Gte, If, IfNot, Lt, Lte, NotEq, Or, Unless}
+use Rattle.operator.specs.declared.Operator.the-variants.{Add, And, Atan2, Default, Div, Eql, Mod, Mul, Pow, Sub, Gt, Gte, If, IfNot, Lt, Lte}
+use Rattle.operator.specs.declared.Operator.the-variants.{NotEq, Or, Unless}
 use Rattle.operator.specs.Operators.{operators, nth}
 use Rattle.operator.proofs.Operator.{the-type}
 

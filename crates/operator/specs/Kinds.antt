@@ -1,6 +1,7 @@
 -- What each operator does. Assumes nothing.
 use Rattle.operator.specs.declared.Operator.{Operator}
-use Rattle.operator.specs.declared.Operator.the-variants.{Add, And, Atan2, Default, Div, Eql, Mod, Mul, Pow, Sub, Gt, Gte, If, IfNot, Lt, Lte, NotEq, Or, Unless}
+use Rattle.operator.specs.declared.Operator.the-variants.{Add, And, Atan2, Default, Div, Eql, Mod, Mul, Pow, Sub, Gt, Gte, If, IfNot, Lt, Lte}
+use Rattle.operator.specs.declared.Operator.the-variants.{NotEq, Or, Unless}
 
 pub data Arithmetic : Type 0 where
   sum difference product quotient remainder : Arithmetic

@@ -4,7 +4,8 @@ use mathlib.Core.Bool.{Bool, true, false}
 use mathlib.Core.Option.{Option, none, some}
 use mathlib.Core.List.{List, [], _∷_}
 use Rattle.operator.specs.declared.Operator.{Operator}
-use Rattle.operator.specs.declared.Operator.the-variants.{Add, And, Atan2, Default, Div, Eql, Mod, Mul, Pow, Sub, Gt, Gte, If, IfNot, Lt, Lte, NotEq, Or, Unless}
+use Rattle.operator.specs.declared.Operator.the-variants.{Add, And, Atan2, Default, Div, Eql, Mod, Mul, Pow, Sub, Gt, Gte, If, IfNot, Lt, Lte}
+use Rattle.operator.specs.declared.Operator.the-variants.{NotEq, Or, Unless}
 use Rattle.operator.specs.declared.Coded.{Coded}
 use Rattle.operator.specs.declared.Coded.the-variants.{Known, Unknown}
 use Rattle.operator.specs.Kinds.{Kind, arithmetic, comparison, setRule, fallback, notCarried, kindOf}

@@ -40,10 +40,13 @@ impl Operator {
 
     pub const MAX_TAGS: usize = 32;
 
-    // The bytes of a name, a key or a value.
-    pub const MAX_FIELD: usize = 255;
+    // The labels of a query's list.
+    pub const MAX_LISTED: usize = 32;
 
     pub const MAX_LABEL_BYTES: usize = 65535;
+
+    // The bytes of a vector's sizes, at the start of its label part.
+    pub const SIZES_LENGTH: usize = 6;
 
     pub fn from_byte(b: u8) -> Coded
         ensures { λ r. ⌜ r ≡ codedOf b ⌝ }

@@ -3,6 +3,7 @@ pub mod Ends
 pub mod Settling
 pub mod Keyed
 pub mod Merging
+pub mod Sides
 pub mod Pairs
 pub mod Sets
 pub mod Joins

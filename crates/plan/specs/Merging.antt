@@ -1,18 +1,15 @@
 -- Merging the rows of a group, as rows of one array of readings. Assumes nothing.
-use Prim.Native.Nat.{ℕ, suc, _*_}
+use Prim.Native.Nat.{ℕ, suc}
 use mathlib.Core.Bool.{cond}
 use mathlib.Core.Option.{Option, none, some}
 use mathlib.Core.List.{List, [], _∷_}
 use lib.Dec.{eqb}
 use lib.ListN.{take, drop}
+use Rattle.side_parts.specs.Sides.{rowAt}
 use Rattle.model.specs.Query.{Side}
 use Rattle.model.specs.Row.{merged}
 use Rattle.semantics.specs.Events.{Duplicate}
 use Rattle.plan.specs.Keys.{lastOf}
-
--- the row of the series i, p readings wide
-abbrev pub rowAt : ℕ → List ℕ → ℕ → List ℕ
-rowAt p rows i = take p (drop (i * p) rows)
 
 -- what the merges of a group come to: a row, or the place of the series that failed to merge, and the row as merged before it
 pub data RowMerge : Type 0 where

@@ -2,7 +2,7 @@
 use Prim.Native.Nat.{ℕ, suc}
 use mathlib.Core.Bool.{Bool, not, _&&_, cond}
 use mathlib.Core.Option.{Option, none}
-use mathlib.Core.List.{List, [], _∷_}
+use mathlib.Core.List.{List, [], _∷_, map}
 use lib.Dec.{eqb, ltb}
 use lib.ListN.{length, getD}
 use Rattle.model.specs.Reading.{scalarOp}
@@ -11,35 +11,29 @@ use Rattle.model.specs.Labels.{Labels}
 use Rattle.model.specs.Query.{Query, left, right}
 use Rattle.model.specs.Vector.{Series}
 use Rattle.semantics.specs.Events.{Duplicate}
+use Rattle.semantics.specs.Call.{Outcome}
 use Rattle.semantics.specs.Binop.{adjustBinaryOpTags, allowedOverlaps}
+use Rattle.side_parts.specs.Lent.{Sides, sideLabels}
 use Rattle.plan.specs.Keys.{dropped, firstOf, lastOf}
 use Rattle.plan.specs.Merging.{mergeLast, rowOf, clash}
-use Rattle.plan.specs.Conclude.{orElse}
+use Rattle.plan.specs.Conclude.{orElse, conclude}
 
 -- 01: per key on both sides; first left place of the key, among kept series
 abbrev pub isPair : List ℕ → List ℕ → ℕ → ℕ → Bool
 isPair ks ms k i = not (eqb k dropped) && (eqb (firstOf ks k) i && ltb (firstOf ms k) (length ms))
 
--- readings wide p; left rows and keys; right rows and keys
-pub record Sides : Type 0 where
-  pub points : ℕ
-  pub leftRows : List ℕ
-  pub leftKeys : List ℕ
-  pub rightRows : List ℕ
-  pub rightKeys : List ℕ
-
 -- 01: left before right
 abbrev pub pairClash : ℕ → Sides → ℕ → Option Duplicate
 pairClash allowance s k =
     orElse
-    (clash left (lastOf (s .leftKeys) k) (mergeLast allowance (s .points) (s .leftRows) (s .leftKeys) k))
-    (clash right (lastOf (s .rightKeys) k) (mergeLast allowance (s .points) (s .rightRows) (s .rightKeys) k))
+    (clash left (lastOf (s .left .keys) k) (mergeLast allowance (s .shape .points) (s .left .rows) (s .left .keys) k))
+    (clash right (lastOf (s .right .keys) k) (mergeLast allowance (s .shape .points) (s .right .rows) (s .right .keys) k))
 
 -- the first clash of the left places from i on, whose keys are `rest`
 unfoldable pub pairsClash : ℕ → Sides → ℕ → List ℕ → Option Duplicate
 pairsClash allowance s i [] = none
 pairsClash allowance s i (k ∷ rest) =
-    orElse (cond (isPair (s .leftKeys) (s .rightKeys) k i) (pairClash allowance s k) none) (pairsClash allowance s (suc i) rest)
+    orElse (cond (isPair (s .left .keys) (s .right .keys) k i) (pairClash allowance s k) none) (pairsClash allowance s (suc i) rest)
 
 -- the left places whose labels the answer has
 unfoldable pub pairsFrom : List ℕ → List ℕ → ℕ → List ℕ → List ℕ
@@ -53,9 +47,17 @@ noLabels = record { name = []; tags = [] }
 unfoldable pub pairRow : Query → Sides → ℕ → List ℕ
 pairRow q s k =
     zipWith (scalarOp (q .operator) (q .bool))
-    (rowOf (mergeLast (allowedOverlaps q) (s .points) (s .leftRows) (s .leftKeys) k))
-    (rowOf (mergeLast (allowedOverlaps q) (s .points) (s .rightRows) (s .rightKeys) k))
+    (rowOf (mergeLast (allowedOverlaps q) (s .shape .points) (s .left .rows) (s .left .keys) k))
+    (rowOf (mergeLast (allowedOverlaps q) (s .shape .points) (s .right .rows) (s .right .keys) k))
 
 -- the answer series whose labels are those of the left place j
-unfoldable pub pairSeries : Query → Sides → List Labels → ℕ → Series
-pairSeries q s labels j = record { labels = adjustBinaryOpTags q (getD labels j noLabels); row = pairRow q s (getD (s .leftKeys) j 0) }
+unfoldable pub pairSeries : Query → Sides → ℕ → Series
+pairSeries q s j =
+    record { labels = adjustBinaryOpTags q (getD (sideLabels (s .left)) j noLabels); row = pairRow q s (getD (s .left .keys) j 0) }
+
+-- 01: the first in answer order, left before right; else the answer series
+abbrev pub pairsOutcome : Query → ℕ → ℕ → Sides → Outcome
+pairsOutcome q labelRoom room s =
+    conclude labelRoom room (s .shape)
+    (pairsClash (allowedOverlaps q) s 0 (s .left .keys))
+    (map (pairSeries q s) (pairsFrom (s .left .keys) (s .right .keys) 0 (s .left .keys)))

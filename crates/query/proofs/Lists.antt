@@ -17,9 +17,9 @@ use Rattle.model.specs.Edits.{Names}
 use Rattle.model.specs.Query.{Listed, notListed, listed, withName, namesIn, listIn, onListed}
 use Rattle.model.specs.Laws.Query.{not-listed}
 use Rattle.labels.specs.Names.{namesOf, names-listed}
-use Rattle.list_ends.specs.declared.ListEnd.{ListEnd}
-use Rattle.list_ends.specs.declared.ListEnd.the-variants.{Until, Bad}
-use Rattle.list_ends.specs.Ends.{endOf}
+use Rattle.query.specs.declared.list_ends.ListEnd.{ListEnd}
+use Rattle.query.specs.declared.list_ends.ListEnd.the-variants.{Until, Bad}
+use Rattle.query.specs.list_ends.Ends.{endOf, endTold}
 use Rattle.query.specs.Queries.{lists, noLists, listsIn, matchingPart, Counts, ListsAt}
 
 -- what is read as ns with `rest` behind it is a front that is read as ns alone
@@ -36,7 +36,8 @@ names-front (suc n) s ns rest e = go (names-front n) (readField s) refl e
     Fewer : Type 0
     Fewer = (s : List ℕ) (ns : Names) (rest : List ℕ) → namesIn n s ≡ listed ns rest → Front (namesIn n) s ns rest
 
-    last : Fewer → (y : ℕ) (x s₁ : List ℕ) → s ≡ encodeField (y ∷ x) ++ s₁ → (l : Listed) → namesIn n s₁ ≡ l → withName (y ∷ x) l ≡ listed ns rest → Front (namesIn (suc n)) s ns rest
+    last : Fewer → (y : ℕ) (x s₁ : List ℕ) → s ≡ encodeField (y ∷ x) ++ s₁ → (l : Listed) → namesIn n s₁ ≡ l
+        → withName (y ∷ x) l ≡ listed ns rest → Front (namesIn (suc n)) s ns rest
     last ih y x s₁ h notListed hl e = not-listed ns rest e
     last ih y x s₁ h (listed ms r) hl e =
         let f = ih s₁ ms r hl in
@@ -117,17 +118,17 @@ taken-front t ns rest n e h =
       count = list-count t ns rest e;
     }
 
-list-taken : (t : List ℕ) (r : ListEnd) (n : ℕ) → r ≡ endOf (length t) (listIn t) → r ≡ Until n → ListTaken t n
-list-taken t r n e u = go (listIn t) refl (sym u ∙ e)
+list-taken : (t : List ℕ) (r : ListEnd) (n : ℕ) → endTold r ≡ endOf (length t) (listIn t) → r ≡ Until n → ListTaken t n
+list-taken t r n e u = go (listIn t) refl (ap endTold (sym u) ∙ e)
   where
-    go : (l : Listed) → listIn t ≡ l → Until n ≡ endOf (length t) l → ListTaken t n
+    go : (l : Listed) → listIn t ≡ l → endTold (Until n) ≡ endOf (length t) l → ListTaken t n
     go notListed h e = absurd (let z : _≡_ {A = ℕ} 0 1 = cc in omega arith)
     go (listed ns rest) h e = taken-front t ns rest n h (cc)
 
-list-refused : (t : List ℕ) (r : ListEnd) → r ≡ endOf (length t) (listIn t) → r ≡ Bad → listIn t ≡ notListed
-list-refused t r e u = go (listIn t) (sym u ∙ e)
+list-refused : (t : List ℕ) (r : ListEnd) → endTold r ≡ endOf (length t) (listIn t) → r ≡ Bad → listIn t ≡ notListed
+list-refused t r e u = go (listIn t) (ap endTold (sym u) ∙ e)
   where
-    go : (l : Listed) → Bad ≡ endOf (length t) l → l ≡ notListed
+    go : (l : Listed) → endTold Bad ≡ endOf (length t) l → l ≡ notListed
     go notListed e = refl
     go (listed ns rest) e = absurd (let z : _≡_ {A = ℕ} 0 1 = cc in omega arith)
 
@@ -138,8 +139,8 @@ partFrom k s = take (length s - k) (drop k s)
 part-is : (k : ℕ) (s : List ℕ) → partFrom k s ≡ drop k s
 part-is k s = take-all (length s - k) (drop k s) (omega (arith, length-drop k s))
 
-module _ (k : ℕ) (s : List ℕ) (r : ListEnd) (e : r ≡ endOf (length (partFrom k s)) (listIn (partFrom k s))) where
-  told : r ≡ endOf (length (drop k s)) (listIn (drop k s))
+module _ (k : ℕ) (s : List ℕ) (r : ListEnd) (e : endTold r ≡ endOf (length (partFrom k s)) (listIn (partFrom k s))) where
+  told : endTold r ≡ endOf (length (drop k s)) (listIn (drop k s))
   told = e ∙ ap (λ z. endOf (length z) (listIn z)) (part-is k s)
 
   pub part-taken : (n : ℕ) → r ≡ Until n → ListTaken (drop k s) n
@@ -176,7 +177,9 @@ module _ (s : List ℕ) where
       behind = second-at ∙ rw (second .is, drop-drop m (4 + n) s)
 
       pub bytes-behind : (4 + n + m ≡ length s → ⊥) → ListsAt s Bad
-      bytes-behind h = refused-lists s (sym (behind ∙ rw (not-empty (drop (4 + n + m) s) (simp length-drop (omega (arith, h, length-drop (4 + n) s, second .within))))))
+      bytes-behind h =
+          let some : 0 < length (drop (4 + n + m) s) = simp length-drop (omega (arith, h, length-drop (4 + n) s, second .within)) in
+          refused-lists s (sym (behind ∙ rw (not-empty (drop (4 + n + m) s) some)))
 
       pub both-lists : 4 + n + m ≡ length s → ListsAt s (Until (4 + n))
       both-lists h =
@@ -189,7 +192,8 @@ module _ (s : List ℕ) where
             counts = λ at u. both-counted at u e₁ e₂;
           }
         where
-          both-counted : (at : ℕ) → Until (4 + n) ≡ Until at → namesOf (matchingPart s (4 + n)) ≡ first .names → namesOf (drop (4 + n) s) ≡ second .names → Counts s at
+          both-counted : (at : ℕ) → Until (4 + n) ≡ Until at → namesOf (matchingPart s (4 + n)) ≡ first .names
+              → namesOf (drop (4 + n) s) ≡ second .names → Counts s at
           both-counted at u e₁ e₂ =
               let a : at ≡ 4 + n = cc in
               rw a (record {

@@ -1,5 +1,5 @@
 -- What taking a query answers, by what the tests found. Assumes nothing.
-use Prim.Native.Nat.{ℕ, zero, suc, _≤_, _<_, _+_, _-_, _%_}
+use Prim.Native.Nat.{ℕ, zero, suc, _≤_, _<_, _-_, _%_}
 use mathlib.Core.Path.{_≡_, refl, sym, ap, _∙_}
 use mathlib.Core.List.{List, [], _∷_, map}
 use mathlib.Core.Option.{Option, none, some}
@@ -12,10 +12,10 @@ use borrow.Author.Tests.{le-leb, lt-leb}
 use Rattle.operator.specs.declared.Operator.{Operator}
 use Rattle.operator.specs.declared.Coded.{Coded}
 use Rattle.operator.specs.declared.Coded.the-variants.{Known, Unknown}
-use Rattle.operator_table.specs.declared.OperatorRow.{OperatorRow}
+use Rattle.query.specs.declared.operator_table.OperatorRow.{OperatorRow}
 use Rattle.operator.specs.Operators.{operators, nth, operatorOf, coded, codedOf, isCarried}
-use Rattle.operator_table.specs.Table as Table
-use Rattle.operator_table.specs.Table.{table, unlisted, rowOf, Claims, claimed, agrees}
+use Rattle.query.specs.operator_table.Table as Table
+use Rattle.query.specs.operator_table.Table.{table, unlisted, tableRow, Claims, claimed, agrees}
 use Rattle.model.specs.Lists.{isEmpty}
 use Rattle.model.specs.Edits.{Names}
 use Rattle.model.specs.Query as Model
@@ -26,9 +26,10 @@ use Rattle.query.specs.declared.Join.{Join}
 use Rattle.query.specs.declared.Query.{Query}
 use Rattle.query.specs.declared.Request.{Request}
 use Rattle.query.specs.declared.Request.the-variants.{Asked, BadOperator, Malformed}
-use Rattle.list_ends.specs.declared.ListEnd.{ListEnd}
-use Rattle.list_ends.specs.declared.ListEnd.the-variants.{Until, Bad}
-use Rattle.query.specs.Queries.{joinOf, queryOf, matchingPart, joinPart, ListsWithin, TakenAs, InRange, Lists, noLists, lists, listsIn, listsOf, Counts, ListsAt}
+use Rattle.query.specs.declared.list_ends.ListEnd.{ListEnd}
+use Rattle.query.specs.declared.list_ends.ListEnd.the-variants.{Until, Bad}
+use Rattle.query.specs.Queries.{joinOf, queryOf, matchingPart, joinPart, ListsWithin, TakenAs, InRange}
+use Rattle.query.specs.Queries.{Lists, noLists, refusedLists, lists, listsIn, listsOf, Counts, ListsAt}
 
 -- refusals
 
@@ -44,10 +45,18 @@ refused-operator s t e =
 
 module _ (o : Operator) (m j f : ℕ) where
   asQuery : Names → Names → Model.Query
-  asQuery ns js = record { operator = o; matching = Model.matchingOf m; join = Model.joinOf j; keepNames = eqb f 1 || eqb f 3; bool = leb 2 f; matchingList = ns; joinList = js }
+  asQuery ns js = record {
+    operator = o;
+    matching = Model.matchingOf m;
+    join = Model.joinOf j;
+    keepNames = eqb f 1 || eqb f 3;
+    bool = leb 2 f;
+    matchingList = ns;
+    joinList = js;
+  }
 
   ofLists : Lists → Model.TakenQuery
-  ofLists noLists = Model.malformed
+  ofLists (refusedLists k) = Model.malformed
   ofLists (lists ns js) = cond (Model.fitting (asQuery ns js)) (Model.query (asQuery ns js)) Model.malformed
 
   by-lists : (t : List ℕ) → Model.withLists o m j f t ≡ ofLists (listsIn t)
@@ -58,11 +67,18 @@ module _ (o : Operator) (m j f : ℕ) where
       end ns js [] = refl
       end ns js (x ∷ xs) = refl
 
-      go₂ : (ns : Names) (l : Model.Listed) → Model.onListed l Model.malformed (λ js s₂. Model.ended (asQuery ns js) s₂) ≡ ofLists (Model.onListed l noLists (λ js s₂. cond (isEmpty s₂) (lists ns js) noLists))
+      go₂ : (ns : Names) (l : Model.Listed)
+          → Model.onListed l Model.malformed (λ js s₂. Model.ended (asQuery ns js) s₂)
+          ≡ ofLists (Model.onListed l noLists (λ js s₂. cond (isEmpty s₂) (lists ns js) noLists))
       go₂ ns Model.notListed = refl
       go₂ ns (Model.listed js s₂) = end ns js s₂
 
-      go : (l : Model.Listed) → Model.onListed l Model.malformed (λ ns s₁. Model.onListed (Model.listIn s₁) Model.malformed (λ js s₂. Model.ended (asQuery ns js) s₂)) ≡ ofLists (Model.onListed l noLists (λ ns s₁. Model.onListed (Model.listIn s₁) noLists (λ js s₂. cond (isEmpty s₂) (lists ns js) noLists)))
+      go : (l : Model.Listed)
+          → Model.onListed l Model.malformed
+          (λ ns s₁. Model.onListed (Model.listIn s₁) Model.malformed (λ js s₂. Model.ended (asQuery ns js) s₂))
+          ≡ ofLists
+          (Model.onListed l noLists
+          (λ ns s₁. Model.onListed (Model.listIn s₁) noLists (λ js s₂. cond (isEmpty s₂) (lists ns js) noLists)))
       go Model.notListed = refl
       go (Model.listed ns s₁) = go₂ ns (Model.listIn s₁)
 
@@ -92,7 +108,9 @@ module _ (o : Operator) (s : List ℕ) where
     four : drop 1 s ≡ getD s 1 0 ∷ getD s 2 0 ∷ getD s 3 0 ∷ drop 4 s
     four = rw (drop-cons s 1 0 (omega arith), drop-cons s 2 0 (omega arith), drop-cons s 3 0 (omega arith))
 
-    tested : Model.modified o (drop 1 s) ≡ cond (leb (getD s 1 0) 2 && (leb (getD s 2 0) 3 && leb (getD s 3 0) 3)) (Model.withLists o (getD s 1 0) (getD s 2 0) (getD s 3 0) (drop 4 s)) Model.malformed
+    tested : Model.modified o (drop 1 s)
+        ≡ cond (leb (getD s 1 0) 2 && (leb (getD s 2 0) 3 && leb (getD s 3 0) 3))
+        (Model.withLists o (getD s 1 0) (getD s 2 0) (getD s 3 0) (drop 4 s)) Model.malformed
     tested = ap (Model.modified o) four
 
     pub bad-matching : 2 < getD s 1 0 → TakenAs s (Model.modified o (drop 1 s)) Malformed
@@ -112,7 +130,9 @@ module _ (o : Operator) (s : List ℕ) where
   module _ (range : InRange s) where
     by-parts : Model.modified o (drop 1 s) ≡ ofLists o (getD s 1 0) (getD s 2 0) (getD s 3 0) (listsIn (drop 4 s))
     by-parts =
-        tested (range .long) ∙ rw (le-leb (getD s 1 0) 2 (range .matching), le-leb (getD s 2 0) 3 (range .join), le-leb (getD s 3 0) 3 (range .flags)) (by-lists o (getD s 1 0) (getD s 2 0) (getD s 3 0) (drop 4 s))
+        tested (range .long)
+        ∙ rw (le-leb (getD s 1 0) 2 (range .matching), le-leb (getD s 2 0) 3 (range .join), le-leb (getD s 3 0) 3 (range .flags))
+        (by-lists o (getD s 1 0) (getD s 2 0) (getD s 3 0) (drop 4 s))
 
     pub no-lists : (r : ListEnd) → ListsAt s r → r ≡ Bad → TakenAs s (Model.modified o (drop 1 s)) Malformed
     unfolding ofLists
@@ -137,7 +157,9 @@ module _ (o : Operator) (s : List ℕ) where
       js = namesOf (joinPart s at)
 
       module _ (m : Matching) (hm : matchingOf m ≡ Model.matchingOf (getD s 1 0)) (j : Join) (hj : joinOf j ≡ Model.joinOf (getD s 2 0)) where
-        at-parts : Model.modified o (drop 1 s) ≡ cond ((Model.isMatched (matchingOf m) || eqb (getD s 4 0) 0) && (Model.isGroup (joinOf j) || eqb (getD s at 0) 0)) (Model.query (asQuery o (getD s 1 0) (getD s 2 0) (getD s 3 0) ns js)) Model.malformed
+        at-parts : Model.modified o (drop 1 s)
+            ≡ cond ((Model.isMatched (matchingOf m) || eqb (getD s 4 0) 0) && (Model.isGroup (joinOf j) || eqb (getD s at 0) 0))
+            (Model.query (asQuery o (getD s 1 0) (getD s 2 0) (getD s 3 0) ns js)) Model.malformed
         unfolding ofLists asQuery ns js
         at-parts = by-parts ∙ rw (← found .same, counted .matching, counted .join, ← hm, ← hj)
 
@@ -149,7 +171,17 @@ module _ (o : Operator) (s : List ℕ) where
             pub stray-join : y ≡ false → TakenAs s (Model.modified o (drop 1 s)) Malformed
             stray-join g = refused-malformed s _ (at-parts ∙ rw (← hu, ← hx, e, ← hv, ← hy, g))
 
-            pub asked : y ≡ true → TakenAs s (Model.modified o (drop 1 s)) (Asked (record { operator = o; matching = m; join = j; «keep_names» = eqb (getD s 3 0 % 2) 1; bool = leb 2 (getD s 3 0); «join_at» = at }))
+            abbrev code : Query
+            code = record {
+              operator = o;
+              matching = m;
+              join = j;
+              «keep_names» = eqb (getD s 3 0 % 2) 1;
+              bool = leb 2 (getD s 3 0);
+              «join_at» = at;
+            }
+
+            pub asked : y ≡ true → TakenAs s (Model.modified o (drop 1 s)) (Asked code)
             unfolding asQuery ns js
             asked g = record {
               answer = rw (at-parts, ← hu, ← hx, e, ← hv, ← hy, g, hm, hj, keep-flag (getD s 3 0) (range .flags));
@@ -194,7 +226,8 @@ abbrev behindFirst : List Claims → List Claims
 behindFirst [] = []
 behindFirst (c ∷ cs) = cs
 
-row-carried : (rs : List OperatorRow) (os : List Operator) → map claimed rs ≡ map Table.tested os → (n : ℕ) (o : Operator) → nth os n ≡ some o → getD rs n unlisted .carried ≡ isCarried o
+row-carried : (rs : List OperatorRow) (os : List Operator) → map claimed rs ≡ map Table.tested os
+    → (n : ℕ) (o : Operator) → nth os n ≡ some o → getD rs n unlisted .carried ≡ isCarried o
 row-carried rs [] e n o h = cc
 row-carried [] (p ∷ os) e n o h = cc
 row-carried (r ∷ rs) (p ∷ os) e zero o h = ap carriedFirst e ∙ ap isCarried (the-some p o h)
@@ -203,14 +236,14 @@ row-carried (r ∷ rs) (p ∷ os) e zero o h = ap carriedFirst e ∙ ap isCarrie
     the-some p o h = cc
 row-carried (r ∷ rs) (p ∷ os) e (suc n) o h = row-carried rs os (ap behindFirst e) n o h
 
-carried-byte : (n : ℕ) (o : Operator) → operatorOf n ≡ some o → rowOf n .carried ≡ isCarried o
+carried-byte : (n : ℕ) (o : Operator) → operatorOf n ≡ some o → tableRow n .carried ≡ isCarried o
 carried-byte n o h = row-carried table operators agrees n o h
 
 module _ (s : List ℕ) (some-bytes : length s ≡ 0 → ⊥) (x : Coded) (hx : x ≡ codedOf (getD s 0 0)) where
   pub unknown : x ≡ Unknown → TakenAs s (Model.takeQuery s) BadOperator
   unknown u = refused-operator s _ (begun s some-bytes ∙ rw (coded-none (operatorOf (getD s 0 0)) (sym hx ∙ u)))
 
-  module _ (o : Operator) (u : x ≡ Known o) (b : Bool) (hb : b ≡ rowOf (getD s 0 0) .carried) where
+  module _ (o : Operator) (u : x ≡ Known o) (b : Bool) (hb : b ≡ tableRow (getD s 0 0) .carried) where
     stands : operatorOf (getD s 0 0) ≡ some o
     stands = coded-some (operatorOf (getD s 0 0)) o (sym hx ∙ u)
 

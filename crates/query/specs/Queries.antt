@@ -15,8 +15,9 @@ use Rattle.query.specs.declared.Join.the-variants.{OneToOne, GroupLeft, 
 use Rattle.query.specs.declared.Query.{Query}
 use Rattle.query.specs.declared.Request.{Request}
 use Rattle.query.specs.declared.Request.the-variants.{Asked, BadOperator, Malformed}
-use Rattle.list_ends.specs.declared.ListEnd.{ListEnd}
-use Rattle.list_ends.specs.declared.ListEnd.the-variants.{Until, Bad}
+use Rattle.query.specs.declared.list_ends.ListEnd.{ListEnd}
+use Rattle.query.specs.declared.list_ends.ListEnd.the-variants.{Until, Bad}
+use Rattle.query.specs.list_ends.Ends.{listNumber}
 
 abbrev pub joinOf : Join → Model.Join
 joinOf OneToOne = Model.oneToOne
@@ -30,17 +31,21 @@ matchingPart s joinAt = take (joinAt - 4) (drop 4 s)
 abbrev pub joinPart : List ℕ → ℕ → List ℕ
 joinPart s joinAt = drop joinAt s
 
--- the query that the code's stands for, with the bytes that it was taken from
-abbrev pub queryOf : List ℕ → Query → Model.Query
-queryOf s q = record {
+-- the query that the code's stands for, with the bytes of its matching list and of its join list
+abbrev pub queryBy : List ℕ → List ℕ → Query → Model.Query
+queryBy names join q = record {
   operator = q .operator;
   matching = matchingOf (q .matching);
   join = joinOf (q .join);
   keepNames = q .«keep_names»;
   bool = q .bool;
-  matchingList = namesOf (matchingPart s (q .«join_at»));
-  joinList = namesOf (joinPart s (q .«join_at»));
+  matchingList = namesOf names;
+  joinList = namesOf join;
 }
+
+-- with the bytes that it was taken from
+abbrev pub queryOf : List ℕ → Query → Model.Query
+queryOf s q = queryBy (matchingPart s (q .«join_at»)) (joinPart s (q .«join_at»)) q
 
 -- a query, or 01's number
 pub data Answer : Type 0 where
@@ -53,10 +58,16 @@ numbered (Model.query q) = taken q
 numbered Model.badOperator = refused 1
 numbered Model.malformed = refused 2
 
+-- 01's number of the code's answer; 0 where nothing is refused
+abbrev pub requestNumber : Request → ℕ
+requestNumber (Asked q) = 0
+requestNumber BadOperator = 1
+requestNumber Malformed = 2
+
 abbrev pub answerOf : List ℕ → Request → Answer
 answerOf s (Asked q) = taken (queryOf s q)
-answerOf s BadOperator = refused 1
-answerOf s Malformed = refused 2
+answerOf s BadOperator = refused (requestNumber BadOperator)
+answerOf s Malformed = refused (requestNumber Malformed)
 
 -- both lists have a count byte
 pub record ListsWithin (s : List ℕ) (joinAt : ℕ) : Type 0 where
@@ -75,10 +86,14 @@ pub record InRange (s : List ℕ) : Type 0 where
   pub join : getD s 2 0 ≤ 3
   pub flags : getD s 3 0 ≤ 3
 
--- two lists and nothing behind them
+-- two lists and nothing behind them, or 01's number
 pub data Lists : Type 0 where
-  noLists : Lists
+  refusedLists : ℕ → Lists
   lists : Names → Names → Lists
+
+-- 01: then 2, the query otherwise not as above
+abbrev pub noLists : Lists
+noLists = refusedLists 2
 
 abbrev pub listsIn : List ℕ → Lists
 listsIn s =
@@ -86,7 +101,7 @@ listsIn s =
 
 abbrev pub listsOf : List ℕ → ListEnd → Lists
 listsOf s (Until at) = lists (namesOf (matchingPart s at)) (namesOf (joinPart s at))
-listsOf s Bad = noLists
+listsOf s Bad = refusedLists (listNumber Bad)
 
 -- a list is empty where its count byte is 0
 pub record Counts (s : List ℕ) (joinAt : ℕ) : Type 0 where

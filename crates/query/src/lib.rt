@@ -1,6 +1,13 @@
 // Queries, taken from bytes.
+mod allowance; // how many places a merge may overlap
+mod list_ends; // where a label list ends
+mod metric_group; // whether the names of an answer's series are cleared
+mod operator_table; // the constant table that a query's operator byte indexes
+
+use crate::list_ends::ListEnd;
+pub use allowance::allowed_overlaps;
 use labels::Matching;
-use list_ends::ListEnd;
+pub use metric_group::should_reset_metric_group;
 use operator::Coded;
 use operator::Operator;
 ghost use mathlib.Core.Path.{_≡_};
@@ -9,10 +16,10 @@ ghost use Prim.Native.Nat.{_≤_, _<_};
 ghost use lib.Dec.{eqb};
 ghost use lib.ListN.{length, drop};
 ghost use Rattle.model.specs.Query as Model;
-ghost use Rattle.operator_table.specs.Table.{rowOf};
+ghost use Rattle.query.specs.operator_table.Table.{tableRow};
 ghost use Rattle.labels.specs.Matchings.{matchingOf};
 ghost use Rattle.query.specs.Queries.{joinOf, InRange, ListsAt, TakenAs};
-ghost use Rattle.list_ends.specs.declared.ListEnd.the-variants as ListEnd;
+ghost use Rattle.query.specs.declared.list_ends.ListEnd.the-variants as ListEnd;
 
 // The many side of a join is the left one for `GroupLeft`.
 pub enum Join {
@@ -155,7 +162,7 @@ fn take_modifier(s: &[u8], operator: Operator) -> Request
 
 // Whether calls run the operator of a byte, by the operator table.
 fn is_carried(b: u8) -> bool
-    ensures { λ r. ⌜ r ≡ rowOf b .carried ⌝ }
+    ensures { λ r. ⌜ r ≡ tableRow b .carried ⌝ }
 {
     let row = operator_table::operator_row(b);
     row.carried

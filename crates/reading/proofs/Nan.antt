@@ -1,7 +1,7 @@
 -- What a test for a NaN shows of a pattern and of a float, and what operators give of it. Assumes nothing.
 use mathlib.Core.Path.{_≡_, refl, sym, _∙_, subst}
 use mathlib.Core.Bool.{Bool, true, false, not, cond, _||_}
-use Prim.Native.Nat.{ℕ, _+_, _*_, _%_, _/_, _<_, _≤_}
+use Prim.Native.Nat.{ℕ, _+_, _%_, _/_, _<_, _≤_}
 use native.Mathlib.Omega.{arith}
 use lib.Dec.{T, ltb}
 use lib.Ieee.{Float, nan, inf, fin, binary64, ofBits, toBits, nanBits, isNan, ne, lt, le, eq, add, sub, neg, mul, div, rem}
@@ -11,7 +11,7 @@ use borrow.Author.Tests.{ltb-true, ltb-false}
 use Rattle.operator.specs.Kinds.{Arithmetic, sum, difference, product, quotient, remainder}
 use Rattle.model.specs.Lists.{cases}
 use Rattle.model.specs.Reading.{missing, noReading, calculated, equals}
-use Rattle.reading.specs.Gaps.{gapOf}
+use Rattle.reading.specs.Gaps.{gapOf, solidOf}
 
 pub yes : {b : Bool} → b ≡ true → T b
 yes h = subst T (sym h) tt
@@ -48,7 +48,8 @@ present (fin s m e) h = tt
 
 -- `gap` by a sum and a shift
 
-by-test : (b : Bool) (m : ℕ) → m < 0x8000000000000000 → ltb 0x7ff0000000000000 m ≡ b → ((m + 0x000fffffffffffff) / 0x8000000000000000 ≡ cond b 1 0)
+by-test : (b : Bool) (m : ℕ) → m < 0x8000000000000000 → ltb 0x7ff0000000000000 m ≡ b
+    → ((m + 0x000fffffffffffff) / 0x8000000000000000 ≡ cond b 1 0)
 by-test true m l h = omega (arith, l, ltb-true 0x7ff0000000000000 m h)
 by-test false m l h = omega (arith, l, ltb-false 0x7ff0000000000000 m h)
 
@@ -112,7 +113,13 @@ right-missing remainder a b h = rw (read-missing b h, rem-nan)
 -- 01: An N from arithmetic is hexadecimal 7ff8000000000000.
 pub calculated-gap : (k : Arithmetic) (a b : ℕ) → 0 < gapOf a + gapOf b → calculated k a b ≡ noReading
 calculated-gap k a b h =
-    cases (missing a) (left-missing k a b) (λ e. cases (missing b) (right-missing k a b) (λ f. absurd (omega (arith, h, gap-of-reading a e, gap-of-reading b f))))
+    cases (missing a) (left-missing k a b)
+    (λ e. cases (missing b) (right-missing k a b)
+    (λ f. absurd (omega (arith, h, gap-of-reading a e, gap-of-reading b f))))
+
+pub solid-reading : (x gaps : ℕ) → gaps ≡ 0 → solidOf x gaps ≡ ofBits binary64 x
+unfolding solidOf
+solid-reading x gaps h = rw h
 
 module _ (a b : ℕ) (h : gapOf a + gapOf b ≡ 0) where
   pub left-solid : T (not (nanBits binary64 a))

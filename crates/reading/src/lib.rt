@@ -3,9 +3,9 @@ ghost use mathlib.Core.Path.{_≡_};
 ghost use mathlib.Core.Bool.{cond, not};
 ghost use Prim.Native.Nat.{_+_};
 ghost use lib.Dec.{T};
-ghost use lib.Ieee.{binary64, ofBits, toBits, nanBits};
+ghost use lib.Ieee.{binary64, toBits, nanBits};
 ghost use Rattle.model.specs.Reading.{missing};
-ghost use Rattle.reading.specs.Gaps.{gapOf};
+ghost use Rattle.reading.specs.Gaps.{gapOf, solidOf};
 
 // What a rule that gives no reading writes.
 pub const MISSING: u64 = 0x7ff8_0000_0000_0000;
@@ -44,10 +44,10 @@ pub fn pick(c: bool, x: u64, y: u64) -> u64
     if c { x } else { y }
 }
 
-// The float of x, or 1 where some reading is missing.
+// The float of x, or 1.0 where some reading is missing.
 pub fn solid(x: u64, gaps: u64) -> f64
     requires { ⌜ (gaps ≡ 0 → T (not (nanBits binary64 x))) ⌝ }
-    ensures { λ r. ⌜ (gaps ≡ 0 → r ≡ ofBits binary64 x) ⌝ }
+    ensures { λ r. ⌜ r ≡ solidOf x gaps ⌝ }
 {
     if gaps > 0 { 1.0 } else { f64::from_bits(x) }
 }

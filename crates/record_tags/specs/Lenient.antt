@@ -10,7 +10,7 @@ use Rattle.model.specs.Labels.{Tag, Labels}
 use Rattle.model.specs.Record.{readField, onField, Decoded, decoded, cut, badKey, decode, encodeField, encodeTags, encode}
 use Rattle.model.specs.Laws.Record.{read-field, encode-split, decode-is}
 use Rattle.labels.specs.Names.{front}
-use Rattle.label_records.specs.Records.{recordOf}
+use Rattle.label_records.specs.Records.{behind, recordAnswer, decodedAnswer}
 use Rattle.label_records.specs.declared.Record.{Record}
 use Rattle.label_records.specs.declared.Record.the-variants.{Ok}
 
@@ -68,13 +68,16 @@ some-bytes : (l : Labels) → 0 < length (encode l)
 unfolding encode
 some-bytes l = omega (arith, length-append (encodeField (l .name)) (length (l .tags) ∷ encodeTags (l .tags)))
 
-record-here : (s : List ℕ) (at next : ℕ) (l : Labels) (rest : List ℕ) → decode (drop at s) ≡ decoded l rest → next ≡ length s - length rest → RecordAt s at next
+record-here : (s : List ℕ) (at next : ℕ) (l : Labels) (rest : List ℕ)
+    → decode (drop at s) ≡ decoded l rest → next ≡ length s - length rest → RecordAt s at next
 record-here s at next l rest e hn =
     let b : drop at s ≡ encode l ++ rest = decode-is (drop at s) l rest e .bytes in
-    let n : length (encode l) + length rest ≡ length s - at = sym (length-append (encode l) rest) ∙ sym (ap length b) ∙ length-drop at s in
+    let n : length (encode l) + length rest ≡ length s - at =
+    sym (length-append (encode l) rest) ∙ sym (ap length b) ∙ length-drop at s in
     let k : length (encode l) + at ≡ next = omega (arith, n, hn, some-bytes l) in
     let behind : rest ≡ drop next s =
-    sym (drop-append-seam (encode l) rest) ∙ ap (drop (length (encode l))) (sym b) ∙ drop-drop (length (encode l)) at s ∙ ap (λ (i : ℕ). drop i s) (add-comm at (length (encode l)) ∙ k) in
+    sym (drop-append-seam (encode l) rest) ∙ ap (drop (length (encode l))) (sym b) ∙ drop-drop (length (encode l)) at s
+    ∙ ap (λ (i : ℕ). drop i s) (add-comm at (length (encode l)) ∙ k) in
     let size : length (drop at s) - length rest ≡ next - at = omega (arith, length-drop at s, hn, n, some-bytes l) in
     record {
       labels = l;
@@ -84,10 +87,11 @@ record-here s at next l rest e hn =
       within = omega (arith, hn);
     }
 
-pub record-found : (s : List ℕ) (at next : ℕ) (x : Record) → x ≡ recordOf (length s) (decode (drop at s)) → x ≡ Ok next → RecordAt s at next
-record-found s at next x hx ex = go (decode (drop at s)) refl (sym ex ∙ hx)
+pub record-found : (s : List ℕ) (at next : ℕ) (x : Record)
+    → recordAnswer x ≡ decodedAnswer (length s) (decode (drop at s)) → x ≡ Ok next → RecordAt s at next
+record-found s at next x hx ex = go (decode (drop at s)) refl (rw ex at hx)
   where
-    go : (d : Decoded) → decode (drop at s) ≡ d → Ok next ≡ recordOf (length s) d → RecordAt s at next
+    go : (d : Decoded) → decode (drop at s) ≡ d → behind next ≡ decodedAnswer (length s) d → RecordAt s at next
     go (decoded l rest) h f = record-here s at next l rest h (cc)
     go cut h f = absurd (let z : _≡_ {A = ℕ} 0 1 = cc in omega arith)
     go badKey h f = absurd (let z : _≡_ {A = ℕ} 0 1 = cc in omega arith)

@@ -55,11 +55,12 @@ pub fn next_tag(s: &[u8], at: usize, n: usize) -> Next
     let Place::At { start: _, end } = fields::field_at(s, key_end) else {
         return Next::End;
     };
+    let left = n - 1;
     Next::Tag {
         start: at,
         key,
         key_end,
         end,
-        left: n - 1,
+        left,
     }
 }

@@ -18,17 +18,17 @@ gives (setRule s) = false
 gives (fallback s) = false
 gives notCarried = false
 
-none-given : (k : Kind) → false ≡ gives k → (bool : Bool) (a b : ℕ) → noReading ≡ scalarOfKind k bool a b
-none-given (arithmetic k) h bool a b = cc
-none-given (comparison k) h bool a b = cc
-none-given (setRule s) h bool a b = refl
-none-given (fallback s) h bool a b = refl
-none-given notCarried h bool a b = refl
+none-given : (k : Kind) → false ≡ gives k → (asBool : Bool) (a b : ℕ) → noReading ≡ scalarOfKind k asBool a b
+none-given (arithmetic k) h asBool a b = cc
+none-given (comparison k) h asBool a b = cc
+none-given (setRule s) h asBool a b = refl
+none-given (fallback s) h asBool a b = refl
+none-given notCarried h asBool a b = refl
 
 -- the numbers of the others
 abbrev pub others : List ℕ
 others = 1 ∷ 2 ∷ 3 ∷ 8 ∷ 12 ∷ 13 ∷ 17 ∷ 18 ∷ []
 
-pub no-scalar : (o : Operator) → OneOf others (tagOf the-type o) → (bool : Bool) (a b : ℕ) → noReading ≡ scalarOp o bool a b
+pub no-scalar : (o : Operator) → OneOf others (tagOf the-type o) → (asBool : Bool) (a b : ℕ) → noReading ≡ scalarOp o asBool a b
 unfolding scalarOp
 no-scalar o h = none-given (kindOf o) (by-numbers (λ o. gives (kindOf o)) false others tt o h)

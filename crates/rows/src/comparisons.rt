@@ -78,10 +78,10 @@ fn one_or_zero(b: bool) -> u64
 }
 
 // What a comparison gives, by whether it holds.
-fn to_comparison_value(holds: bool, left: u64, bool: bool) -> u64
-    ensures { λ r. ⌜ r ≡ comparisonValue bool holds left ⌝ }
+fn to_comparison_value(holds: bool, left: u64, as_bool: bool) -> u64
+    ensures { λ r. ⌜ r ≡ comparisonValue «as_bool» holds left ⌝ }
 {
-    if bool {
+    if as_bool {
         reading::pick(
             reading::is_missing(left),
             reading::MISSING,
@@ -92,38 +92,38 @@ fn to_comparison_value(holds: bool, left: u64, bool: bool) -> u64
     }
 }
 
-pub(crate) fn compare_eq(left: u64, right: u64, bool: bool) -> u64
-    ensures { λ r. ⌜ r ≡ compared bool equal left right ⌝ }
+pub(crate) fn compare_eq(left: u64, right: u64, as_bool: bool) -> u64
+    ensures { λ r. ⌜ r ≡ compared «as_bool» equal left right ⌝ }
 {
-    to_comparison_value(op_eq(left, right), left, bool)
+    to_comparison_value(op_eq(left, right), left, as_bool)
 }
 
-pub(crate) fn compare_neq(left: u64, right: u64, bool: bool) -> u64
-    ensures { λ r. ⌜ r ≡ compared bool unequal left right ⌝ }
+pub(crate) fn compare_neq(left: u64, right: u64, as_bool: bool) -> u64
+    ensures { λ r. ⌜ r ≡ compared «as_bool» unequal left right ⌝ }
 {
-    to_comparison_value(op_neq(left, right), left, bool)
+    to_comparison_value(op_neq(left, right), left, as_bool)
 }
 
-pub(crate) fn compare_lt(left: u64, right: u64, bool: bool) -> u64
-    ensures { λ r. ⌜ r ≡ compared bool less left right ⌝ }
+pub(crate) fn compare_lt(left: u64, right: u64, as_bool: bool) -> u64
+    ensures { λ r. ⌜ r ≡ compared «as_bool» less left right ⌝ }
 {
-    to_comparison_value(op_lt(left, right), left, bool)
+    to_comparison_value(op_lt(left, right), left, as_bool)
 }
 
-pub(crate) fn compare_lte(left: u64, right: u64, bool: bool) -> u64
-    ensures { λ r. ⌜ r ≡ compared bool atMost left right ⌝ }
+pub(crate) fn compare_lte(left: u64, right: u64, as_bool: bool) -> u64
+    ensures { λ r. ⌜ r ≡ compared «as_bool» atMost left right ⌝ }
 {
-    to_comparison_value(op_lte(left, right), left, bool)
+    to_comparison_value(op_lte(left, right), left, as_bool)
 }
 
-pub(crate) fn compare_gt(left: u64, right: u64, bool: bool) -> u64
-    ensures { λ r. ⌜ r ≡ compared bool greater left right ⌝ }
+pub(crate) fn compare_gt(left: u64, right: u64, as_bool: bool) -> u64
+    ensures { λ r. ⌜ r ≡ compared «as_bool» greater left right ⌝ }
 {
-    to_comparison_value(op_gt(left, right), left, bool)
+    to_comparison_value(op_gt(left, right), left, as_bool)
 }
 
-pub(crate) fn compare_gte(left: u64, right: u64, bool: bool) -> u64
-    ensures { λ r. ⌜ r ≡ compared bool atLeast left right ⌝ }
+pub(crate) fn compare_gte(left: u64, right: u64, as_bool: bool) -> u64
+    ensures { λ r. ⌜ r ≡ compared «as_bool» atLeast left right ⌝ }
 {
-    to_comparison_value(op_gte(left, right), left, bool)
+    to_comparison_value(op_gte(left, right), left, as_bool)
 }

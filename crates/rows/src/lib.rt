@@ -26,23 +26,23 @@ fn no_rows(left: &[u64], right: &[u64], out: &mut [u64])
 }
 
 // The operator's readings, point by point; no reading for one that is neither arithmetic nor a comparison.
-pub fn apply_rows(op: Operator, bool: bool, left: &[u64], right: &[u64], out: &mut [u64])
+pub fn apply_rows(op: Operator, as_bool: bool, left: &[u64], right: &[u64], out: &mut [u64])
     requires { ⌜ length (now left) ≡ length (now out) ⌝ }
     requires { ⌜ length (now right) ≡ length (now out) ⌝ }
-    ensures { λ _. ⌜ now (out .exit) ≡ zipWith (scalarOp op bool) (now (left .entry)) (now (right .entry)) ⌝ }
+    ensures { λ _. ⌜ now (out .exit) ≡ zipWith (scalarOp op «as_bool») (now (left .entry)) (now (right .entry)) ⌝ }
 {
     match op {
         Operator::Add => arithmetic_rows::plus_rows(left, right, out),
         Operator::Div => arithmetic_rows::div_rows(left, right, out),
-        Operator::Eql => equality_rows::eq_rows(left, right, bool, out),
+        Operator::Eql => equality_rows::eq_rows(left, right, as_bool, out),
         Operator::Mod => arithmetic_rows::mod_rows(left, right, out),
         Operator::Mul => arithmetic_rows::mul_rows(left, right, out),
         Operator::Sub => arithmetic_rows::minus_rows(left, right, out),
-        Operator::Gt => comparison_rows::gt_rows(left, right, bool, out),
-        Operator::Gte => comparison_rows::gte_rows(left, right, bool, out),
-        Operator::Lt => comparison_rows::lt_rows(left, right, bool, out),
-        Operator::Lte => comparison_rows::lte_rows(left, right, bool, out),
-        Operator::NotEq => equality_rows::neq_rows(left, right, bool, out),
+        Operator::Gt => comparison_rows::gt_rows(left, right, as_bool, out),
+        Operator::Gte => comparison_rows::gte_rows(left, right, as_bool, out),
+        Operator::Lt => comparison_rows::lt_rows(left, right, as_bool, out),
+        Operator::Lte => comparison_rows::lte_rows(left, right, as_bool, out),
+        Operator::NotEq => equality_rows::neq_rows(left, right, as_bool, out),
         _ => no_rows(left, right, out),
     }
 }

@@ -88,7 +88,8 @@ abbrev pub filledFrom : Option Found → ℕ → ℕ
 filledFrom none x = x
 filledFrom (some f) x = f .reading
 
--- 01: per point over same-key right series: `and`, `if` keep the left reading if one has a reading; `unless`, `ifnot` if none has; `or`, `default` fill N from the first that has.
+-- 01: per point over same-key right series: `and`, `if` keep the left reading if one has a reading; `unless`, `ifnot` if none has; `or`,
+-- `default` fill N from the first that has.
 abbrev pub setReading : SetRule → List Placed → ℕ → ℕ → ℕ
 setReading whereFound rs i x = cond (someReading rs i) x noReading
 setReading whereNone rs i x = cond (someReading rs i) noReading x

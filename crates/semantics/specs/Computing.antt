@@ -1,4 +1,5 @@
--- What opens for a call to compute: a declaration that names `computing` on its `unfolding` line unfolds all that this names, and all that model's names. Assumes nothing.
+-- What opens for a call to compute: a declaration that names `computing` on its `unfolding` line unfolds all that this names, and all that
+-- model's names. Assumes nothing.
 use Rattle.model.specs.Computing as Model
 use Rattle.semantics.specs.Rules.{mergedInto, sameEdited, groups, hasReadings}
 use Rattle.semantics.specs.Binop.{adjustBinaryOpTags, paired, joinedLabels, joinWork, allowedOverlaps, firstReading, someReading, met}

@@ -1,2 +1,3 @@
+pub mod Sides
 pub mod Answering
 pub mod Listed

@@ -1,3 +1,3 @@
-pub mod Answers
 pub mod set_points
-pub mod binaryop
+pub mod set_operators
+pub mod Answers

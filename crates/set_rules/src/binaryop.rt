@@ -1,24 +1,25 @@
 // The set rules on two readings.
 ghost use mathlib.Core.Path.{_≡_};
-ghost use Rattle.set_rules.specs.binaryop.Leaves.{whereReading, whereMissing, filledFrom};
+ghost use Rattle.operator.specs.Kinds.{whereFound, whereNone, filled};
+ghost use Rattle.set_rules.specs.set_points.Points.{onReading};
 
 // The left reading where the right one is there: `and`, `if`.
 pub(crate) fn op_if(left: u64, right: u64) -> u64
-    ensures { λ r. ⌜ r ≡ whereReading left right ⌝ }
+    ensures { λ r. ⌜ r ≡ onReading whereFound left right ⌝ }
 {
     reading::pick(reading::is_missing(right), reading::MISSING, left)
 }
 
 // The left reading where the right one is missing: `unless`, `ifnot`.
 pub(crate) fn op_if_not(left: u64, right: u64) -> u64
-    ensures { λ r. ⌜ r ≡ whereMissing left right ⌝ }
+    ensures { λ r. ⌜ r ≡ onReading whereNone left right ⌝ }
 {
     reading::pick(reading::is_missing(right), left, reading::MISSING)
 }
 
 // The left reading, filled from the right one where it is missing: `or`, `default`.
 pub(crate) fn op_default(left: u64, right: u64) -> u64
-    ensures { λ r. ⌜ r ≡ filledFrom left right ⌝ }
+    ensures { λ r. ⌜ r ≡ onReading filled left right ⌝ }
 {
     reading::pick(
         reading::is_missing(left),

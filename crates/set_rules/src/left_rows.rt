@@ -8,14 +8,16 @@ ghost use lib.ListN.{length};
 ghost use Rattle.operator.specs.Kinds.{whereFound, whereNone, filled};
 ghost use Rattle.model.specs.Row.{zipWith};
 ghost use Rattle.plan.specs.Sets.{setRow};
-ghost use Rattle.noting.specs.Places.{Within};
+ghost use Rattle.index_lists.specs.Places.{Within};
 ghost use Rattle.set_rules.specs.set_points.Points.{meant, onReading};
 
 // The left row where some listed series has a reading.
 fn add_right_nans_to_left(left: &[u64], rows: &[u64], places: &[usize], out: &mut [u64])
     requires { ⌜ length (now left) ≡ length (now out) ⌝ }
     requires { ⌜ Within (length (now left)) (now rows) (now places) ⌝ }
-    ensures { λ _. ⌜ now (out .exit) ≡ setRow whereFound (length (now (left .entry))) (now (rows .entry)) (now (places .entry)) (now (left .entry)) ⌝ }
+    ensures { λ _. ⌜
+        now (out .exit) ≡ setRow whereFound (length (now (left .entry))) (now (rows .entry)) (now (places .entry)) (now (left .entry))
+        ⌝ }
 {
     let p = left.len();
     let mut i: usize = 0;
@@ -29,7 +31,9 @@ fn add_right_nans_to_left(left: &[u64], rows: &[u64], places: &[usize], out: &mu
 fn add_left_nans_if_no_right_nans(left: &[u64], rows: &[u64], places: &[usize], out: &mut [u64])
     requires { ⌜ length (now left) ≡ length (now out) ⌝ }
     requires { ⌜ Within (length (now left)) (now rows) (now places) ⌝ }
-    ensures { λ _. ⌜ now (out .exit) ≡ setRow whereNone (length (now (left .entry))) (now (rows .entry)) (now (places .entry)) (now (left .entry)) ⌝ }
+    ensures { λ _. ⌜
+        now (out .exit) ≡ setRow whereNone (length (now (left .entry))) (now (rows .entry)) (now (places .entry)) (now (left .entry))
+        ⌝ }
 {
     let p = left.len();
     let mut i: usize = 0;
@@ -43,7 +47,9 @@ fn add_left_nans_if_no_right_nans(left: &[u64], rows: &[u64], places: &[usize], 
 fn fill_left_nans_with_right_values(left: &[u64], rows: &[u64], places: &[usize], out: &mut [u64])
     requires { ⌜ length (now left) ≡ length (now out) ⌝ }
     requires { ⌜ Within (length (now left)) (now rows) (now places) ⌝ }
-    ensures { λ _. ⌜ now (out .exit) ≡ setRow filled (length (now (left .entry))) (now (rows .entry)) (now (places .entry)) (now (left .entry)) ⌝ }
+    ensures { λ _. ⌜
+        now (out .exit) ≡ setRow filled (length (now (left .entry))) (now (rows .entry)) (now (places .entry)) (now (left .entry))
+        ⌝ }
 {
     let p = left.len();
     let mut i: usize = 0;
@@ -57,7 +63,9 @@ fn fill_left_nans_with_right_values(left: &[u64], rows: &[u64], places: &[usize]
 pub(crate) fn set_row(rule: SetRule, left: &[u64], rows: &[u64], places: &[usize], out: &mut [u64])
     requires { ⌜ length (now left) ≡ length (now out) ⌝ }
     requires { ⌜ Within (length (now left)) (now rows) (now places) ⌝ }
-    ensures { λ _. ⌜ now (out .exit) ≡ setRow (meant rule) (length (now (left .entry))) (now (rows .entry)) (now (places .entry)) (now (left .entry)) ⌝ }
+    ensures { λ _. ⌜
+        now (out .exit) ≡ setRow (meant rule) (length (now (left .entry))) (now (rows .entry)) (now (places .entry)) (now (left .entry))
+        ⌝ }
 {
     match rule {
         SetRule::WhereFound => add_right_nans_to_left(left, rows, places, out),

@@ -1,12 +1,13 @@
 // Set rules on one left series: whether it answers, and its row.
 use crate::left_rows;
+use crate::set_operators::SetWork;
 use crate::set_points;
 use crate::set_points::SetRule;
 ghost use mathlib.Core.Path.{_≡_};
 ghost use lib.ListN.{length};
 ghost use Rattle.plan.specs.Sets.{metPlaces, needsMatch, dropsEmpty, leftRow, leftAnswers};
 ghost use Rattle.plan.specs.Keys.{KeyEnds};
-ghost use Rattle.noting.specs.Places.{Within, RightSide};
+ghost use Rattle.index_lists.specs.Places.{Within, RightHeld};
 ghost use Rattle.set_rules.specs.set_points.Points.{meant};
 
 // Whether a rule drops a left series that meets no right one.
@@ -34,7 +35,9 @@ fn drops_empty(rule: SetRule) -> bool
 // Whether a left series that meets the listed right ones is in the answer.
 fn answers_with(rule: SetRule, left: &[u64], rows: &[u64], places: &[usize]) -> bool
     requires { ⌜ Within (length (now left)) (now rows) (now places) ⌝ }
-    ensures { λ r. ⌜ r ≡ leftAnswers (meant rule) (length (now (left .entry))) (now (rows .entry)) (now (places .entry)) (now (left .entry)) ⌝ }
+    ensures { λ r. ⌜
+        r ≡ leftAnswers (meant rule) (length (now (left .entry))) (now (rows .entry)) (now (places .entry)) (now (left .entry))
+        ⌝ }
 {
     if places.len() == 0 {
         return !needs_match(rule);
@@ -49,7 +52,9 @@ fn answers_with(rule: SetRule, left: &[u64], rows: &[u64], places: &[usize]) -> 
 fn put_with(rule: SetRule, left: &[u64], rows: &[u64], places: &[usize], out: &mut [u64])
     requires { ⌜ length (now left) ≡ length (now out) ⌝ }
     requires { ⌜ Within (length (now left)) (now rows) (now places) ⌝ }
-    ensures { λ _. ⌜ now (out .exit) ≡ leftRow (meant rule) (length (now (left .entry))) (now (rows .entry)) (now (places .entry)) (now (left .entry)) ⌝ }
+    ensures { λ _. ⌜
+        now (out .exit) ≡ leftRow (meant rule) (length (now (left .entry))) (now (rows .entry)) (now (places .entry)) (now (left .entry))
+        ⌝ }
 {
     if places.len() == 0 {
         answers::copy_row(out, left);
@@ -66,8 +71,7 @@ fn put_with(rule: SetRule, left: &[u64], rows: &[u64], places: &[usize], out: &m
 
 // Whether a left series of the key k is in the answer; a key of one right place needs no long list.
 pub(crate) fn left_answers(
-    rule: SetRule,
-    falls: bool,
+    w: SetWork,
     left: &[u64],
     k: usize,
     first: usize,
@@ -76,23 +80,26 @@ pub(crate) fn left_answers(
     rows: &[u64],
 ) -> bool
     requires { ⌜ KeyEnds (now keys) k first last ⌝ }
-    requires { ⌜ RightSide falls (length (now left)) (now keys) (now rows) ⌝ }
-    ensures { λ r. ⌜ r ≡ leftAnswers (meant rule) (length (now (left .entry))) (now (rows .entry)) (metPlaces falls (now (keys .entry)) k) (now (left .entry)) ⌝ }
+    requires { ⌜ RightHeld (w .falls) (length (now left)) (now keys) (now rows) ⌝ }
+    ensures { λ r. ⌜
+        r ≡ leftAnswers (meant (w .rule)) (length (now (left .entry))) (now (rows .entry)) (metPlaces (w .falls) (now (keys .entry)) k)
+        (now (left .entry))
+        ⌝ }
 {
+    let rule = w.rule;
     if first == last {
         let mut one = [0usize; 1];
-        let m = noting::met(keys, k, first, last, falls, &mut one);
+        let m = index_lists::met(keys, k, first, last, w.falls, &mut one);
         return answers_with(rule, left, rows, &one[..m]);
     }
     let mut places = [0usize; 512];
-    let m = noting::met(keys, k, first, last, falls, &mut places);
+    let m = index_lists::met(keys, k, first, last, w.falls, &mut places);
     answers_with(rule, left, rows, &places[..m])
 }
 
 // Writes the answer row of a left series of the key k; a key of one right place needs no long list.
 pub(crate) fn put_left_row(
-    rule: SetRule,
-    falls: bool,
+    w: SetWork,
     left: &[u64],
     k: usize,
     first: usize,
@@ -103,16 +110,20 @@ pub(crate) fn put_left_row(
 )
     requires { ⌜ length (now left) ≡ length (now out) ⌝ }
     requires { ⌜ KeyEnds (now keys) k first last ⌝ }
-    requires { ⌜ RightSide falls (length (now left)) (now keys) (now rows) ⌝ }
-    ensures { λ _. ⌜ now (out .exit) ≡ leftRow (meant rule) (length (now (left .entry))) (now (rows .entry)) (metPlaces falls (now (keys .entry)) k) (now (left .entry)) ⌝ }
+    requires { ⌜ RightHeld (w .falls) (length (now left)) (now keys) (now rows) ⌝ }
+    ensures { λ _. ⌜
+        now (out .exit) ≡ leftRow (meant (w .rule)) (length (now (left .entry))) (now (rows .entry)) (metPlaces (w .falls) (now (keys .entry)) k)
+        (now (left .entry))
+        ⌝ }
 {
+    let rule = w.rule;
     if first == last {
         let mut one = [0usize; 1];
-        let m = noting::met(keys, k, first, last, falls, &mut one);
+        let m = index_lists::met(keys, k, first, last, w.falls, &mut one);
         put_with(rule, left, rows, &one[..m], out);
         return;
     }
     let mut places = [0usize; 512];
-    let m = noting::met(keys, k, first, last, falls, &mut places);
+    let m = index_lists::met(keys, k, first, last, w.falls, &mut places);
     put_with(rule, left, rows, &places[..m], out);
 }

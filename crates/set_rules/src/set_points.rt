@@ -7,11 +7,11 @@ ghost use lib.ListN.{length};
 ghost use Rattle.operator.specs.Kinds.{filled};
 ghost use Rattle.model.specs.Row.{onlyMissing};
 ghost use Rattle.plan.specs.Sets.{firstAt, setRow};
-ghost use Rattle.noting.specs.Places.{Within};
+ghost use Rattle.index_lists.specs.Places.{Within};
 ghost use Rattle.set_rules.specs.set_points.Points.{meant, readingOf, onReading};
 
 // Where a left reading stays, by the right ones: where one is found; where none is; everywhere, and its gaps are filled.
-pub enum SetRule {
+pub(crate) enum SetRule {
     WhereFound,
     WhereNone,
     Filled,
@@ -51,7 +51,9 @@ fn set_point(rule: SetRule, left: u64, right: u64) -> u64
 // Whether a rule leaves a reading in a left row.
 pub(crate) fn leaves(rule: SetRule, left: &[u64], rows: &[u64], places: &[usize]) -> bool
     requires { ⌜ Within (length (now left)) (now rows) (now places) ⌝ }
-    ensures { λ r. ⌜ r ≡ not (onlyMissing (setRow (meant rule) (length (now (left .entry))) (now (rows .entry)) (now (places .entry)) (now (left .entry)))) ⌝ }
+    ensures { λ r. ⌜
+        r ≡ not (onlyMissing (setRow (meant rule) (length (now (left .entry))) (now (rows .entry)) (now (places .entry)) (now (left .entry))))
+        ⌝ }
 {
     let p = left.len();
     let mut i: usize = 0;

@@ -2,14 +2,15 @@
 use crate::binaryop;
 ghost use mathlib.Core.Path.{_≡_};
 ghost use lib.ListN.{length};
+ghost use Rattle.operator.specs.Kinds.{whereFound, whereNone, filled};
 ghost use Rattle.model.specs.Row.{zipWith};
-ghost use Rattle.set_rules.specs.binaryop.Leaves.{whereReading, whereMissing, filledFrom};
+ghost use Rattle.set_rules.specs.set_points.Points.{onReading};
 
 // The left row where the right one has a reading.
 pub(crate) fn if_rows(left: &[u64], right: &[u64], out: &mut [u64])
     requires { ⌜ length (now left) ≡ length (now out) ⌝ }
     requires { ⌜ length (now right) ≡ length (now out) ⌝ }
-    ensures { λ _. ⌜ now (out .exit) ≡ zipWith (whereReading) (now (left .entry)) (now (right .entry)) ⌝ }
+    ensures { λ _. ⌜ now (out .exit) ≡ zipWith (onReading whereFound) (now (left .entry)) (now (right .entry)) ⌝ }
 {
     let mut i: usize = 0;
     while i < out.len() {
@@ -22,7 +23,7 @@ pub(crate) fn if_rows(left: &[u64], right: &[u64], out: &mut [u64])
 pub(crate) fn if_not_rows(left: &[u64], right: &[u64], out: &mut [u64])
     requires { ⌜ length (now left) ≡ length (now out) ⌝ }
     requires { ⌜ length (now right) ≡ length (now out) ⌝ }
-    ensures { λ _. ⌜ now (out .exit) ≡ zipWith (whereMissing) (now (left .entry)) (now (right .entry)) ⌝ }
+    ensures { λ _. ⌜ now (out .exit) ≡ zipWith (onReading whereNone) (now (left .entry)) (now (right .entry)) ⌝ }
 {
     let mut i: usize = 0;
     while i < out.len() {
@@ -35,7 +36,7 @@ pub(crate) fn if_not_rows(left: &[u64], right: &[u64], out: &mut [u64])
 pub(crate) fn default_rows(left: &[u64], right: &[u64], out: &mut [u64])
     requires { ⌜ length (now left) ≡ length (now out) ⌝ }
     requires { ⌜ length (now right) ≡ length (now out) ⌝ }
-    ensures { λ _. ⌜ now (out .exit) ≡ zipWith (filledFrom) (now (left .entry)) (now (right .entry)) ⌝ }
+    ensures { λ _. ⌜ now (out .exit) ≡ zipWith (onReading filled) (now (left .entry)) (now (right .entry)) ⌝ }
 {
     let mut i: usize = 0;
     while i < out.len() {

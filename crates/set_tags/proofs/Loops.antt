@@ -41,7 +41,8 @@ size-start join skip many source w hw short =
       small = omega (arith, edited-short join skip many source, short .manyShort, short .sourceShort);
     }
 
-module _ (join skip : Names) (many source : List ℕ) (w : Walk) (tags bytes : ℕ) (all : List Tag) (inv : SizeLeft join skip many source w tags bytes all) (x : Edited)
+module _ (join skip : Names) (many source : List ℕ) (w : Walk) (tags bytes : ℕ) (all : List Tag)
+    (inv : SizeLeft join skip many source w tags bytes all) (x : Edited)
     (hx : EditedAt join skip many source w x) where
   pub size-done : x ≡ E.End → TagsSized all (record { tags = tags; bytes = bytes })
   unfolding encodeTags
@@ -56,10 +57,18 @@ module _ (join skip : Names) (many source : List ℕ) (w : Walk) (tags bytes : �
     size-turn =
         let f = edit-first join skip many source w x hx t start end rest ex in
         let span : length (encodeTag (f .tag)) ≡ end - start =
-        ap length (sym (f .bytes)) ∙ length-take (end - start) (drop start (cond t source many)) ∙ (omega (arith, length-drop start (cond t source many), f .spans .within, f .spans .order)) in
+        ap length (sym (f .bytes)) ∙ length-take (end - start) (drop start (cond t source many))
+        ∙ (omega (arith, length-drop start (cond t source many), f .spans .within, f .spans .order)) in
         record {
           count = omega (arith, inv .count, ap length (f .first));
-          size = omega (arith, inv .size, ap (λ l. length (encodeTags l)) (f .first), ap length (encode-tag (f .tag) (tagsLeft join skip many source rest)), length-append (encodeTag (f .tag)) (encodeTags (tagsLeft join skip many source rest)), span);
+          size = omega (
+            arith,
+            inv .size,
+            ap (λ l. length (encodeTags l)) (f .first),
+            ap length (encode-tag (f .tag) (tagsLeft join skip many source rest)),
+            length-append (encodeTag (f .tag)) (encodeTags (tagsLeft join skip many source rest)),
+            span,
+          );
           few = omega (arith, inv .few, edit-fewer join skip many source w x hx t start end rest ex);
           small = inv .small;
         }
@@ -79,16 +88,20 @@ no-tags : encodeTags [] ≡ []
 unfolding encodeTags
 no-tags = refl
 
-pub put-start : (join skip : Names) (many source : List ℕ) (w : Walk) (d : List ℕ) (at : ℕ) → WalkOf many source w → at + length (encodeTags (editedTags join skip many source)) ≤ length d
+pub put-start : (join skip : Names) (many source : List ℕ) (w : Walk) (d : List ℕ) (at : ℕ) → WalkOf many source w
+    → at + length (encodeTags (editedTags join skip many source)) ≤ length d
     → PutLeft join skip many source w d at (encodeTags (editedTags join skip many source)) d at
-put-start join skip many source w d at hw room = record { rest = rw (hw .tags join skip) (rest-start d at (encodeTags (editedTags join skip many source)) room) }
+put-start join skip many source w d at hw room =
+    record { rest = rw (hw .tags join skip) (rest-start d at (encodeTags (editedTags join skip many source)) room) }
 
-module _ (join skip : Names) (many source : List ℕ) (w : Walk) (d₀ : List ℕ) (at : ℕ) (all d : List ℕ) (o : ℕ) (inv : PutLeft join skip many source w d₀ at all d o) (x : Edited)
+module _ (join skip : Names) (many source : List ℕ) (w : Walk) (d₀ : List ℕ) (at : ℕ) (all d : List ℕ) (o : ℕ)
+    (inv : PutLeft join skip many source w d₀ at all d o) (x : Edited)
     (hx : EditedAt join skip many source w x) where
   pub put-ended : x ≡ E.End → Put d₀ at all d o
   put-ended ex = rest-done d₀ at all d o (rw (edit-ended join skip many source w x hx ex, no-tags) at (inv .rest))
 
-  module _ (t : Bool) (start end : ℕ) (rest : Walk) (ex : x ≡ E.Tag t start end rest) (c : List ℕ) (hc : c ≡ take (end - start) (drop start (cond t source many))) where
+  module _ (t : Bool) (start end : ℕ) (rest : Walk) (ex : x ≡ E.Tag t start end rest) (c : List ℕ)
+      (hc : c ≡ take (end - start) (drop start (cond t source many))) where
     left : Rest d₀ at all d o (c ++ encodeTags (tagsLeft join skip many source rest))
     left =
         let f = edit-first join skip many source w x hx t start end rest ex in

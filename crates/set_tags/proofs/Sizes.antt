@@ -44,7 +44,8 @@ edited-short join skip many source =
     omega (
       arith,
       merge-bytes (stayingTags join skip (labelsOf source .tags) (labelsOf many .tags)) (setFrom join skip (labelsOf source .tags)),
-      chosen-short (stays join skip (labelsOf source .tags)) (stayingTags join skip (labelsOf source .tags)) (staying-sieve join skip (labelsOf source .tags)) (labelsOf many .tags),
+      chosen-short (stays join skip (labelsOf source .tags)) (stayingTags join skip (labelsOf source .tags))
+          (staying-sieve join skip (labelsOf source .tags)) (labelsOf many .tags),
       chosen-short (isSet join skip) (setFrom join skip) (set-sieve join skip) (labelsOf source .tags),
       parts-short many,
       parts-short source,
@@ -65,7 +66,9 @@ module _ (naming : Naming) (many source : List ℕ) (short : ShortRecords many s
   record-fit a b join skip k hk small =
       omega (arith, naming-short naming many source, edited-short join skip a b, short .manyShort, short .sourceShort, small .manyShort, small .sourceShort)
 
-  pub record-sized : (join skip : Names) (t k : ℕ) → t ≡ length (editedTags join skip many source) → k ≡ length (encodeTags (editedTags join skip many source)) → Sized (edited join skip naming many source) (record { tags = t; bytes = n + 1 + k })
+  pub record-sized : (join skip : Names) (t k : ℕ) → t ≡ length (editedTags join skip many source)
+      → k ≡ length (encodeTags (editedTags join skip many source))
+      → Sized (edited join skip naming many source) (record { tags = t; bytes = n + 1 + k })
   record-sized join skip t k ht hk = record { tags = ht; bytes = omega (arith, length-labels (edited join skip naming many source)) }
 
 -- `set_tags`: a count of at most 32 is a byte

@@ -20,7 +20,7 @@ pub record ShortRecords (many source : List ℕ) : Type 0 where
   pub manyShort : length many ≤ maxLabelBytes
   pub sourceShort : length source ≤ maxLabelBytes
 
--- the edited labels, read off the two records
+-- the edited labels, read off the two records; named as `naming` says, whatever the lists
 abbrev pub edited : Names → Names → Naming → List ℕ → List ℕ → Labels
 edited join skip naming many source = record { name = nameOf naming many source; tags = editedTags join skip many source }
 

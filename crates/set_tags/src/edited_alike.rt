@@ -9,7 +9,9 @@ ghost use Rattle.set_tags.specs.edited_tags.Streams.{editedTags};
 
 // Whether a many-side record has the same tags edited from the source a as from the source b.
 pub fn same_edited<'a>(many: &'a [u8], a: &'a [u8], b: &'a [u8], join: &[u8], skip: &[u8]) -> bool
-    ensures { λ r. ⌜ r ≡ sameTags (editedTags (namesOf (now (join .entry))) (namesOf (now (skip .entry))) (now (many .entry)) (now (a .entry))) (editedTags (namesOf (now (join .entry))) (namesOf (now (skip .entry))) (now (many .entry)) (now (b .entry))) ⌝ }
+    ensures { λ r. ⌜ r ≡ sameTags
+        (editedTags (namesOf (now (join .entry))) (namesOf (now (skip .entry))) (now (many .entry)) (now (a .entry)))
+        (editedTags (namesOf (now (join .entry))) (namesOf (now (skip .entry))) (now (many .entry)) (now (b .entry))) ⌝ }
 {
     let mut v = edited_tags::walk_of(many, a);
     let mut w = edited_tags::walk_of(many, b);

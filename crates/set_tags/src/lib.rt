@@ -24,7 +24,10 @@ ghost use Rattle.set_tags.specs.Records.{ShortRecords, edited};
 // How many tags the edited record has, and their bytes.
 fn edited_size(many: &[u8], source: &[u8], join: &[u8], skip: &[u8]) -> Size
     requires { ⌜ ShortRecords (now many) (now source) ⌝ }
-    ensures { λ r. ⌜ TagsSized (editedTags (namesOf (now (join .entry))) (namesOf (now (skip .entry))) (now (many .entry)) (now (source .entry))) r ⌝ }
+    ensures { λ r. ⌜
+        TagsSized
+        (editedTags (namesOf (now (join .entry))) (namesOf (now (skip .entry))) (now (many .entry)) (now (source .entry))) r
+        ⌝ }
 {
     let mut w = edited_tags::walk_of(many, source);
     let mut tags: usize = 0;
@@ -55,7 +58,9 @@ fn put_edited<'a>(
     skip: &[u8],
 ) -> usize
     requires { ⌜ at + length (encodeTags (editedTags (namesOf (now join)) (namesOf (now skip)) (now many) (now source))) ≤ length (now out) ⌝ }
-    ensures { λ r. ⌜ Put (now (out .entry)) at (encodeTags (editedTags (namesOf (now (join .entry))) (namesOf (now (skip .entry))) (now (many .entry)) (now (source .entry)))) (now (out .exit)) r ⌝ }
+    ensures { λ r. ⌜ Put (now (out .entry)) at
+        (encodeTags (editedTags (namesOf (now (join .entry))) (namesOf (now (skip .entry))) (now (many .entry)) (now (source .entry))))
+        (now (out .exit)) r ⌝ }
 {
     let mut w = edited_tags::walk_of(many, source);
     let mut o = at;
@@ -78,7 +83,7 @@ fn put_edited<'a>(
     }
 }
 
-// How many tags the edited record has, and its bytes.
+// How many tags the edited record has, and its bytes. It is named as the caller says, whatever the lists; `naming_of` gives 01's naming.
 pub fn set_tags_size(many: &[u8], source: &[u8], join: &[u8], skip: &[u8], naming: Naming) -> Size
     requires { ⌜ ShortRecords (now many) (now source) ⌝ }
     ensures { λ r. ⌜ Sized (edited (namesOf (now (join .entry))) (namesOf (now (skip .entry))) naming (now (many .entry)) (now (source .entry))) r ⌝ }
@@ -104,7 +109,9 @@ pub fn set_tags<'a>(
     requires short { ⌜ ShortRecords (now many) (now source) ⌝ }
     requires few { ⌜ length (editedTags (namesOf (now join)) (namesOf (now skip)) (now many) (now source)) ≤ maxTags ⌝ }
     requires room { ⌜ at + length (encode (edited (namesOf (now join)) (namesOf (now skip)) naming (now many) (now source))) ≤ length (now out) ⌝ }
-    ensures { λ r. ⌜ Put (now (out .entry)) at (encode (edited (namesOf (now (join .entry))) (namesOf (now (skip .entry))) naming (now (many .entry)) (now (source .entry)))) (now (out .exit)) r ⌝ }
+    ensures { λ r. ⌜ Put (now (out .entry)) at
+        (encode (edited (namesOf (now (join .entry))) (namesOf (now (skip .entry))) naming (now (many .entry)) (now (source .entry))))
+        (now (out .exit)) r ⌝ }
 {
     let s = edited_size(many, source, join, skip);
     let n = s.tags;

@@ -21,7 +21,10 @@ fn is_set(join: &[u8], skip: &[u8], label: &[u8]) -> bool
 
 // Whether the many side's tag of a label stays.
 fn is_staying(source: &[u8], join: &[u8], skip: &[u8], label: &[u8]) -> bool
-    ensures { λ r. ⌜ r ≡ stays (namesOf (now (join .entry))) (namesOf (now (skip .entry))) (labelsOf (now (source .entry)) .tags) (now (label .entry)) ⌝ }
+    ensures { λ r. ⌜
+        r ≡ stays (namesOf (now (join .entry))) (namesOf (now (skip .entry))) (labelsOf (now (source .entry)) .tags)
+        (now (label .entry))
+        ⌝ }
 {
     if is_set(join, skip, label) {
         if labels::is_star(join) {
@@ -43,7 +46,9 @@ pub(crate) fn next_staying(
     join: &[u8],
     skip: &[u8],
 ) -> Next
-    ensures { λ r. ⌜ NextAt (stayingTags (namesOf (now (join .entry))) (namesOf (now (skip .entry))) (labelsOf (now (source .entry)) .tags)) (now (many .entry)) n at r ⌝ }
+    ensures { λ r. ⌜ NextAt
+        (stayingTags (namesOf (now (join .entry))) (namesOf (now (skip .entry))) (labelsOf (now (source .entry)) .tags))
+        (now (many .entry)) n at r ⌝ }
 {
     let mut p = at;
     let mut m = n;

@@ -17,5 +17,5 @@ pub record-part : (array at : List ℕ) (i : ℕ) → between array (getD at i 0
 unfolding recordAt
 record-part array at i = refl
 
-pub row-part : (rows : List ℕ) (p i : ℕ) → between rows (i * p) (i * p + p) ≡ rowAt rows p i
+pub row-part : (rows : List ℕ) (p i : ℕ) → between rows (i * p) (i * p + p) ≡ rowAt p rows i
 row-part rows p i = let e : i * p + p - i * p ≡ p = omega arith in ap (λ (n : ℕ). take n (drop (i * p) rows)) e

@@ -7,13 +7,14 @@ use native.Mathlib.Nat.{zero-mul}
 use native.Mathlib.Omega.{arith}
 use lib.ListN.{length, getD, take, drop, length-append, length-take, length-drop, length-map}
 use lib.Seq.{take-at, drop-at, drop-drop, take-nil, getD-take}
+use Rattle.model.specs.Limits.{sizesLength}
 use Rattle.model.specs.Lists.{All}
 use Rattle.model.specs.Labels.{Labels}
 use Rattle.model.specs.Record.{encode}
 use Rattle.model.specs.Vector.{Series, Shape, labelsOfAll, labelPart, labelBytes, readingsOf, seriesOf, GoodSeries}
 use Rattle.model.specs.Laws.Vector.{series-again}
 use Rattle.record_tags.specs.Lenient.{labelsOf, labels-encoded}
-use Rattle.side_parts.specs.Sides.{between, recordAt, labelsFrom, labelsIn, sideOf, rowAt, ends, starts, Positions}
+use Rattle.side_parts.specs.Sides.{between, recordAt, labelsFrom, labelsIn, lentSeries, rowAt, ends, starts, Positions}
 
 -- records by their number, at any positions
 
@@ -69,13 +70,14 @@ module _ (array at : List ℕ) (n : ℕ) (h : Positions array at) where
 
   pub positions-first : Positions array (take n at)
   positions-first = record {
-    ascend = λ i k. let a = first-below i (omega arith) in let b = first-below (i + 1) k in rw (getD-take n at i 0 (a .0), getD-take n at (i + 1) 0 (b .0)) (h .ascend i (b .1));
+    ascend = λ i k. let a = first-below i (omega arith) in let b = first-below (i + 1) k in rw
+        (getD-take n at i 0 (a .0), getD-take n at (i + 1) 0 (b .0)) (h .ascend i (b .1));
     within = λ i k. let a = first-below i k in rw (getD-take n at i 0 (a .0)) (h .within i (a .1));
   }
 
 -- rows by their number
 
-pub row-at : (p : ℕ) (ls : List Labels) (readings : List ℕ) (i : ℕ) (d : Series) → i < length ls → getD (seriesOf p ls readings) i d .row ≡ rowAt readings p i
+pub row-at : (p : ℕ) (ls : List Labels) (readings : List ℕ) (i : ℕ) (d : Series) → i < length ls → getD (seriesOf p ls readings) i d .row ≡ rowAt p readings i
 unfolding seriesOf
 row-at p [] readings i d h = absurd (omega arith)
 row-at p (l ∷ ls) readings zero d h = rw (zero-mul p)
@@ -91,30 +93,38 @@ cut-out before x behind =
     let n : length before + length x - length before ≡ length x = omega arith in
     rw (drop-at before (x ++ behind) (length before) refl, n) (take-at x behind (length x) refl)
 
-cut-labels : (before : List ℕ) (l : Labels) (behind : List ℕ) → labelsOf (between (before ++ (encode l ++ behind)) (length before) (length before + length (encode l))) ≡ l
+cut-labels : (before : List ℕ) (l : Labels) (behind : List ℕ)
+    → labelsOf (between (before ++ (encode l ++ behind)) (length before) (length before + length (encode l))) ≡ l
 cut-labels before l behind = rw (cut-out before (encode l) behind) (ap labelsOf (sym (append-nil (encode l))) ∙ labels-encoded l [])
 
-labels-from : (before : List ℕ) (ss : List Series) → labelsFrom (before ++ labelBytes ss) (length before) (ends (length before) (labelsOfAll ss)) ≡ labelsOfAll ss
+labels-from : (before : List ℕ) (ss : List Series) → labelsFrom (before ++ labelBytes ss) (length before) (ends (length before) (labelsOfAll ss))
+    ≡ labelsOfAll ss
 unfolding labelsFrom ends labelBytes
 labels-from before [] = refl
 labels-from before (s ∷ ss) =
     let n : length (before ++ encode (s .labels)) ≡ length before + length (encode (s .labels)) = length-append before (encode (s .labels)) in
-    rw (cut-labels before (s .labels) (labelBytes ss)) (rw (← append-assoc before (encode (s .labels)) (labelBytes ss), ← n) (ap (λ ls. s .labels ∷ ls) (labels-from (before ++ encode (s .labels)) ss)))
+    rw (cut-labels before (s .labels) (labelBytes ss))
+    (rw (← append-assoc before (encode (s .labels)) (labelBytes ss), ← n)
+    (ap (λ ls. s .labels ∷ ls) (labels-from (before ++ encode (s .labels)) ss)))
 
 pub labels-starts : (ss : List Series) → labelsIn (labelBytes ss) (starts 0 (labelsOfAll ss)) ≡ labelsOfAll ss
 labels-starts ss = labels-from [] ss
 
-record-from : (before : List ℕ) (ss : List Series) (i : ℕ) (d : Labels) → i < length ss → recordAt (before ++ labelBytes ss) (starts (length before) (labelsOfAll ss)) i ≡ encode (getD (labelsOfAll ss) i d)
+record-from : (before : List ℕ) (ss : List Series) (i : ℕ) (d : Labels) → i < length ss
+    → recordAt (before ++ labelBytes ss) (starts (length before) (labelsOfAll ss)) i ≡ encode (getD (labelsOfAll ss) i d)
 unfolding ends labelBytes
 record-from before [] i d h = absurd (omega arith)
 record-from before (s ∷ ss) zero d h =
-    rw (record-first (before ++ (encode (s .labels) ++ labelBytes ss)) (length before) (length before + length (encode (s .labels))) (ends (length before + length (encode (s .labels))) (labelsOfAll ss))) (cut-out before (encode (s .labels)) (labelBytes ss))
+    rw (record-first (before ++ (encode (s .labels) ++ labelBytes ss)) (length before) (length before + length (encode (s .labels)))
+    (ends (length before + length (encode (s .labels))) (labelsOfAll ss))) (cut-out before (encode (s .labels)) (labelBytes ss))
 record-from before (s ∷ ss) (suc i) d h =
     let n : length (before ++ encode (s .labels)) ≡ length before + length (encode (s .labels)) = length-append before (encode (s .labels)) in
-    rw (record-later (before ++ (encode (s .labels) ++ labelBytes ss)) (length before) (starts (length before + length (encode (s .labels))) (labelsOfAll ss)) i)
+    rw (record-later (before ++ (encode (s .labels) ++ labelBytes ss)) (length before)
+    (starts (length before + length (encode (s .labels))) (labelsOfAll ss)) i)
     (rw (← append-assoc before (encode (s .labels)) (labelBytes ss), ← n) (record-from (before ++ encode (s .labels)) ss i d (omega arith)))
 
-pub record-starts : (ss : List Series) (i : ℕ) (d : Labels) → i < length ss → recordAt (labelBytes ss) (starts 0 (labelsOfAll ss)) i ≡ encode (getD (labelsOfAll ss) i d)
+pub record-starts : (ss : List Series) (i : ℕ) (d : Labels) → i < length ss
+    → recordAt (labelBytes ss) (starts 0 (labelsOfAll ss)) i ≡ encode (getD (labelsOfAll ss) i d)
 record-starts ss i d h = record-from [] ss i d h
 
 ends-count : (p : ℕ) (ls : List Labels) → length (ends p ls) ≡ length ls
@@ -152,16 +162,16 @@ last-end p (s ∷ ss) = last-end (p + length (encode (s .labels))) ss ∙ (omega
 pub starts-end : (ss : List Series) → getD (starts 0 (labelsOfAll ss)) (length ss) 0 ≡ length (labelBytes ss)
 starts-end ss = last-end 0 ss ∙ (omega arith)
 
-pub side-starts : (p : ℕ) (ss : List Series) → All (GoodSeries p) ss → sideOf (labelBytes ss) (starts 0 (labelsOfAll ss)) p (readingsOf ss) ≡ ss
+pub side-starts : (p : ℕ) (ss : List Series) → All (GoodSeries p) ss → lentSeries (labelBytes ss) (starts 0 (labelsOfAll ss)) p (readingsOf ss) ≡ ss
 side-starts p ss a = rw (labels-starts ss) (series-again p ss a)
 
 -- row i of a vector's readings is that of its series i
-pub row-starts : (p : ℕ) (ss : List Series) (i : ℕ) (d : Series) → All (GoodSeries p) ss → i < length ss → rowAt (readingsOf ss) p i ≡ getD ss i d .row
+pub row-starts : (p : ℕ) (ss : List Series) (i : ℕ) (d : Series) → All (GoodSeries p) ss → i < length ss → rowAt p (readingsOf ss) i ≡ getD ss i d .row
 row-starts p ss i d a h =
     let n : length (labelsOfAll ss) ≡ length ss = length-map ss (λ s. s .labels) in
     sym (row-at p (labelsOfAll ss) (readingsOf ss) i d (omega arith)) ∙ ap (λ (x : List Series). getD x i d .row) (series-again p ss a)
 
 -- a taken label part is its sizes and its array
-pub array-of : (shape : Shape) (ss : List Series) → drop 6 (labelPart shape ss) ≡ labelBytes ss
+pub array-of : (shape : Shape) (ss : List Series) → drop sizesLength (labelPart shape ss) ≡ labelBytes ss
 unfolding labelPart
 array-of shape ss = refl

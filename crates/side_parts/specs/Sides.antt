@@ -26,12 +26,12 @@ labelsIn array [] = []
 labelsIn array (a ∷ at) = labelsFrom array a at
 
 -- the series of a side: array, positions, points, readings
-abbrev pub sideOf : List ℕ → List ℕ → ℕ → List ℕ → List Series
-sideOf array at p readings = seriesOf p (labelsIn array at) readings
+abbrev pub lentSeries : List ℕ → List ℕ → ℕ → List ℕ → List Series
+lentSeries array at p readings = seriesOf p (labelsIn array at) readings
 
 -- row i of rows of p readings
-abbrev pub rowAt : List ℕ → ℕ → ℕ → List ℕ
-rowAt rows p i = take p (drop (i * p) rows)
+abbrev pub rowAt : ℕ → List ℕ → ℕ → List ℕ
+rowAt p rows i = take p (drop (i * p) rows)
 
 -- where records end that are written one after another from p on
 unfoldable pub ends : ℕ → List Labels → List ℕ

@@ -18,7 +18,7 @@ pub fn record<'a>(array: &'a [u8], at: &[usize], i: usize) -> &'a [u8]
 // The row of series i, of p readings.
 pub fn row(rows: &[u64], p: usize, i: usize) -> &[u64]
     requires { ⌜ i * p + p ≤ length (now rows) ⌝ }
-    ensures { λ r. ⌜ now r ≡ rowAt (now (rows .entry)) p i ⌝ }
+    ensures { λ r. ⌜ now r ≡ rowAt p (now (rows .entry)) i ⌝ }
 {
     let a = i * p;
     let e = a + p;

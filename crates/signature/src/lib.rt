@@ -8,7 +8,9 @@ ghost use Rattle.chosen_tags.specs.Keys.{recordKey, hashByte, hashBytes, hashOf
 
 // Whether two records have the same key.
 pub fn same_key(a: &[u8], b: &[u8], matching: Matching, list: &[u8]) -> bool
-    ensures { λ r. ⌜ r ≡ sameTags (recordKey (matchingOf matching) (now (list .entry)) (now (a .entry))) (recordKey (matchingOf matching) (now (list .entry)) (now (b .entry))) ⌝ }
+    ensures { λ r. ⌜ r ≡ sameTags
+        (recordKey (matchingOf matching) (now (list .entry)) (now (a .entry)))
+        (recordKey (matchingOf matching) (now (list .entry)) (now (b .entry))) ⌝ }
 {
     let h = record_tags::tags_of(a);
     let k = record_tags::tags_of(b);

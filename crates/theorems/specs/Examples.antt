@@ -16,7 +16,8 @@ use Rattle.theorems.specs.Claims.Partition.{pileCall}
 -- the whole call and the two piles' calls, with `vecop`'s output parts
 abbrev calls : List ℕ → ℕ → Deal → List Series → List Series → List Outcome
 calls q points deal ls rs =
-    on q points ls rs ∷ pileCall q (record { points = points }) deal ls rs 65535 8192 ∷ pileCall q (record { points = points }) (secondPile deal) ls rs 65535 8192 ∷ []
+    on q points ls rs ∷ pileCall q (record { points = points }) deal ls rs 65535 8192 ∷ pileCall q (record { points = points })
+    (secondPile deal) ls rs 65535 8192 ∷ []
 
 abbrev sideOf : {X : Type 0} → Side → X → X → X
 sideOf left x y = x
@@ -45,13 +46,15 @@ whole-places = refl
 
 -- the piles' answers alternate in the whole one
 merged-order :
-    calls (plainly 17) 1 (firsts (true ∷ false ∷ true ∷ []) (true ∷ false ∷ [])) (a (one ∷ []) ∷ b (N ∷ []) ∷ a (N ∷ []) ∷ []) (a (five ∷ []) ∷ b (two ∷ []) ∷ [])
+    calls (plainly 17) 1 (firsts (true ∷ false ∷ true ∷ []) (true ∷ false ∷ [])) (a (one ∷ []) ∷ b (N ∷ []) ∷ a (N ∷ []) ∷ [])
+    (a (five ∷ []) ∷ b (two ∷ []) ∷ [])
     ≡ gives 1 (a (one ∷ []) ∷ b (two ∷ []) ∷ a (five ∷ []) ∷ []) ∷ gives 1 (a (one ∷ []) ∷ a (five ∷ []) ∷ []) ∷ gives 1 (b (two ∷ []) ∷ []) ∷ []
 unfolding computing
 merged-order = refl
 
 -- Conditions needed. `if`: the left series falls back in the whole call and not in its pile's, and the answers differ.
-falls-in-whole : calls (plainly 12) 1 (firsts (true ∷ []) (false ∷ [])) (a (one ∷ []) ∷ []) (series [] [] (two ∷ []) ∷ []) ≡ gives 1 (a (one ∷ []) ∷ []) ∷ gives 1 [] ∷ gives 1 [] ∷ []
+falls-in-whole : calls (plainly 12) 1 (firsts (true ∷ []) (false ∷ [])) (a (one ∷ []) ∷ []) (series [] [] (two ∷ []) ∷ [])
+    ≡ gives 1 (a (one ∷ []) ∷ []) ∷ gives 1 [] ∷ gives 1 [] ∷ []
 unfolding computing
 falls-in-whole = refl
 
@@ -63,6 +66,7 @@ unfolding computing
 falls-in-pile = refl
 
 -- `default`: a pile with a right series and no left one returns it, the whole call does not
-no-left-in-pile : calls (plainly 3) 1 (firsts (true ∷ []) (false ∷ [])) (a (one ∷ []) ∷ []) (b (two ∷ []) ∷ []) ≡ gives 1 (a (one ∷ []) ∷ []) ∷ gives 1 (a (one ∷ []) ∷ []) ∷ gives 1 (b (two ∷ []) ∷ []) ∷ []
+no-left-in-pile : calls (plainly 3) 1 (firsts (true ∷ []) (false ∷ [])) (a (one ∷ []) ∷ []) (b (two ∷ []) ∷ [])
+    ≡ gives 1 (a (one ∷ []) ∷ []) ∷ gives 1 (a (one ∷ []) ∷ []) ∷ gives 1 (b (two ∷ []) ∷ []) ∷ []
 unfolding computing
 no-left-in-pile = refl

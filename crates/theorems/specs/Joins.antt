@@ -22,7 +22,8 @@ use Rattle.semantics.specs.Call.{verdict, concluded, fit}
 use Rattle.semantics.specs.Laws.Places.{on-same}
 use Rattle.theorems.specs.Claims.Outcomes.{seriesIn}
 use Rattle.theorems.specs.Claims.Partition.{isRefused}
-use Rattle.theorems.specs.Claims.Prometheus.{readingAt, In, afterDrop, joinedSeries, matchesOf, IsJoin, ManySide, Served, EveryMatchServed, onPoint, SingleMatchServed, ManySideApart, Answers, AnswersVerdict}
+use Rattle.theorems.specs.Claims.Prometheus.{readingAt, In, afterDrop, joinedSeries, matchesOf, IsJoin, ManySide, Served, EveryMatchServed}
+use Rattle.theorems.specs.Claims.Prometheus.{onPoint, SingleMatchServed, ManySideApart, Answers, AnswersVerdict}
 use Rattle.theorems.specs.Dealing.Fitting.{fits-fit, Way, fine, too-big, no-room, fit-way}
 use Rattle.theorems.specs.Outcomes.{taken-call}
 use Rattle.theorems.specs.Laws.Members.{in-gather, in-map, from-map, from-keep, all-in}
@@ -43,7 +44,8 @@ module _ (q : Query) (many : Side) (grouped : q .join ≡ group many) where
       → matchedRule q (q .join) s ys ≡ groups (allowedOverlaps q) (joinWork q many (s .series)) (pairs (joinedPair q) (s .series) (ofSide (other many) ys))
   rule-of-many s ys e = rw (grouped, e, on-same many)
 
-  emits : (k : Kind) → joinsSets k ≡ false → runs k ≡ true → (c : Seen) (xs : List Placed) (s : Placed) → s .place .side ≡ many → In s (afterDrop k xs) → Emits q many k c xs s
+  emits : (k : Kind) → joinsSets k ≡ false → runs k ≡ true → (c : Seen) (xs : List Placed) (s : Placed) → s .place .side ≡ many
+      → In s (afterDrop k xs) → Emits q many k c xs s
   emits (arithmetic a) j r c xs s e h =
       let m = from-keep (λ x. hasReadings (x .series)) s xs h in
       record {
@@ -51,7 +53,8 @@ module _ (q : Query) (many : Side) (grouped : q .join ≡ group many) where
         is = ap (producedBy (s .place))
             (ap (λ t. cond t (matchedRule q (q .join) s (keep (λ x. hasReadings (x .series)) (ofKey q (s .series .labels) xs))) []) (m .passes)
             ∙ rule-of-many s (keep (λ x. hasReadings (x .series)) (ofKey q (s .series .labels) xs)) e
-            ∙ ap (λ ys. groups (allowedOverlaps q) (joinWork q many (s .series)) (pairs (joinedPair q) (s .series) (ofSide (other many) ys))) (keep-swap _ _ xs));
+            ∙ ap (λ ys. groups (allowedOverlaps q) (joinWork q many (s .series)) (pairs (joinedPair q) (s .series) (ofSide (other many) ys)))
+            (keep-swap _ _ xs));
       }
   emits (comparison t) j r c xs s e h = record { member = h; is = ap (producedBy (s .place)) (rule-of-many s (ofKey q (s .series .labels) xs) e) }
   emits (setRule k) j r c xs s e h = absurd (false≢true (sym j))
@@ -64,9 +67,11 @@ module _ (q : Query) (many : Side) (grouped : q .join ≡ group many) where
   emits-same (arithmetic a) j r c c′ xs xs′ o s e = ap (λ l. producedBy (s .place) (cond (hasReadings (s .series)) l [])) (one xs ∙ ap rows o ∙ sym (one xs′))
     where
       rows : List Placed → List (Ranked Place Event)
-      rows ys = groups (allowedOverlaps q) (joinWork q many (s .series)) (pairs (joinedPair q) (s .series) (keep (λ x. hasReadings (x .series)) (ofKey q (s .series .labels) ys)))
+      rows ys = groups (allowedOverlaps q) (joinWork q many (s .series))
+          (pairs (joinedPair q) (s .series) (keep (λ x. hasReadings (x .series)) (ofKey q (s .series .labels) ys)))
 
-      one : (ys : List Placed) → matchedRule q (q .join) s (keep (λ x. hasReadings (x .series)) (ofKey q (s .series .labels) ys)) ≡ rows (ofSide (other many) ys)
+      one : (ys : List Placed) → matchedRule q (q .join) s (keep (λ x. hasReadings (x .series)) (ofKey q (s .series .labels) ys))
+          ≡ rows (ofSide (other many) ys)
       one ys =
           rule-of-many s (keep (λ x. hasReadings (x .series)) (ofKey q (s .series .labels) ys)) e
           ∙ ap (λ l. groups (allowedOverlaps q) (joinWork q many (s .series)) (pairs (joinedPair q) (s .series) l))
@@ -105,7 +110,8 @@ answer-given : (work : Series → Series) (b : Series) (r : Rank) (w : Event) (e
 answer-given work b r w es l (served c h) i e = record { series = c; labels = h; answers = rw (answered es l e .is) (in-goods r (work c) es i) }
 answer-given work b r w es l (failed d) i e = absurd (all-in (λ x. IsGood (x .what)) (record { rank = r; what = bad d }) es (answered es l e .sound) i)
 
-module _ (q : Query) (many : Side) (j : IsJoin q many) (ls rs : List Series) (l : List (Ranked Rank Series)) (e : verdict q ls rs ≡ answer l) (s : Placed) (m : ManySide q many ls rs s) where
+module _ (q : Query) (many : Side) (j : IsJoin q many) (ls rs : List Series) (l : List (Ranked Rank Series)) (e : verdict q ls rs ≡ answer l)
+    (s : Placed) (m : ManySide q many ls rs s) where
   abbrev k : Kind
   k = kindOf (q .operator)
 
@@ -136,7 +142,8 @@ module _ (q : Query) (many : Side) (j : IsJoin q many) (ls rs : List Series) (l 
       let pair : Placed → Placed = λ x. record { place = x .place; series = joinedPair q (s .series) (x .series) } in
       let g = group-event (allowedOverlaps q) (joinWork q many (s .series)) (pairs (joinedPair q) (s .series) ms) (pair o) (in-map pair h) in
       let f = from-map pair (g .earliest) ms (g .member) in
-      let v = answer-given (joinWork q many (s .series)) (g .earliest .series) (record { producer = s .place; earliest = g .earliest .place }) (g .event) (events q rule xs) l (g .sort)
+      let v = answer-given (joinWork q many (s .series)) (g .earliest .series) (record { producer = s .place; earliest = g .earliest .place })
+      (g .event) (events q rule xs) l (g .sort)
       (in-events (record { rank = g .earliest .place; what = g .event }) (g .emitted)) settled-events in
       record {
         earliest = f .source;
@@ -152,14 +159,16 @@ every-match-served q many j ls rs l e s m o h = served-by q many j ls rs l e s m
 
 -- a single match
 
-zip-at : (op : ℕ → ℕ → ℕ) (x y : List ℕ) (i : ℕ) → i < length x → i < length y → getD (zipWith op x y) i noReading ≡ op (getD x i noReading) (getD y i noReading)
+zip-at : (op : ℕ → ℕ → ℕ) (x y : List ℕ) (i : ℕ) → i < length x → i < length y
+    → getD (zipWith op x y) i noReading ≡ op (getD x i noReading) (getD y i noReading)
 unfolding zipWith
 zip-at op [] y i h g = absurd (omega (arith, h))
 zip-at op (a ∷ x) [] i h g = absurd (omega (arith, g))
 zip-at op (a ∷ x) (b ∷ y) zero h g = refl
 zip-at op (a ∷ x) (b ∷ y) (suc i) h g = zip-at op x y i (omega (arith, h)) (omega (arith, g))
 
-rows-at : (many : Side) (op : ℕ → ℕ → ℕ) (m o : List ℕ) (i : ℕ) → i < length m → i < length o → getD (joinRows many op m o) i noReading ≡ onPoint many op (getD m i noReading) (getD o i noReading)
+rows-at : (many : Side) (op : ℕ → ℕ → ℕ) (m o : List ℕ) (i : ℕ) → i < length m → i < length o
+    → getD (joinRows many op m o) i noReading ≡ onPoint many op (getD m i noReading) (getD o i noReading)
 rows-at left op m o i h g = zip-at op m o i h g
 rows-at right op m o i h g = zip-at op o m i g h
 
@@ -172,7 +181,8 @@ pub single-match-served : SingleMatchServed
 single-match-served q many j ls rs l e s m o h =
     let c : Placed = record { place = o .place; series = joinedPair q (s .series) (o .series) } in
     let i = in-events q many j ls rs l e s m (record { rank = o .place; what = good (joinWork q many (s .series) (c .series)) })
-    (rw (ap (λ (ms : List Placed). groups (allowedOverlaps q) (joinWork q many (s .series)) (pairs (joinedPair q) (s .series) ms)) h ∙ grouped-one (allowedOverlaps q) (joinWork q many (s .series)) c) (List·Memᴰ·head refl)) in
+    (rw (ap (λ (ms : List Placed). groups (allowedOverlaps q) (joinWork q many (s .series)) (pairs (joinedPair q) (s .series) ms)) h
+    ∙ grouped-one (allowedOverlaps q) (joinWork q many (s .series)) c) (List·Memᴰ·head refl)) in
     let es = events q (rule q many j ls rs l e s m) (placed ls rs) in
     let a = answered es l (settled-events q many j ls rs l e s m) in
     record {
@@ -192,7 +202,8 @@ many-side-apart q many j ls rs ls′ rs′ o l l′ e e′ s side h h′ =
 -- calls and verdicts
 
 module _ (a b : ℕ) (q : Query) (ls rs : List Series) (shape : Shape) where
-  fitted : (l : List (Ranked Rank Series)) → verdict q ls rs ≡ answer l → Way a b shape (seriesIn l) (fit a b shape (seriesIn l)) → isRefused (fit a b shape (seriesIn l)) ≡ false → Answers q ls rs shape (fit a b shape (seriesIn l))
+  fitted : (l : List (Ranked Rank Series)) → verdict q ls rs ≡ answer l → Way a b shape (seriesIn l) (fit a b shape (seriesIn l))
+      → isRefused (fit a b shape (seriesIn l)) ≡ false → Answers q ls rs shape (fit a b shape (seriesIn l))
   fitted l v (fine h) e = record { l = l; verdict-is = v; is = fits-fit a b shape (seriesIn l) h }
   fitted l v (too-big w) e = never-so (rw w at e)
   fitted l v (no-room w) e = never-so (rw w at e)

@@ -10,7 +10,8 @@ use Rattle.model.specs.Laws.Faults.{fault-of}
 use Rattle.semantics.specs.Places.{Rank}
 use Rattle.semantics.specs.Events.{Ranked, Verdict, answer, duplicate}
 use Rattle.semantics.specs.Call.{Outcome, refused, call, running, concluded, verdict, fit, overLimits, overRoom, sameShape, onVector, onQuery}
-use Rattle.theorems.specs.Claims.Outcomes.{Taken, written, seriesIn, OutcomeOf, number-1, number-2, left-3-to-5, right-3-to-5, number-6, number-7-or-8, number-9, number-10, vector-answered, EveryOutcome, NoOther}
+use Rattle.theorems.specs.Claims.Outcomes.{Taken, written, seriesIn, OutcomeOf, number-1, number-2, left-3-to-5, right-3-to-5, number-6}
+use Rattle.theorems.specs.Claims.Outcomes.{number-7-or-8, number-9, number-10, vector-answered, EveryOutcome, NoOther}
 
 module _ (s ll lr rl rr : List ℕ) (a b : ℕ) where
   abbrev Told : Outcome → Type 0
@@ -21,7 +22,8 @@ module _ (s ll lr rl rr : List ℕ) (a b : ℕ) where
     unfolding fit
     fitted l v = go (overLimits (seriesIn l)) refl (overRoom a b shape (seriesIn l)) refl
       where
-        go : (m : Bool) → overLimits (seriesIn l) ≡ m → (n : Bool) → overRoom a b shape (seriesIn l) ≡ n → Told (cond m (refused 9 0 0) (cond n (refused 10 0 0) (written shape (seriesIn l))))
+        go : (m : Bool) → overLimits (seriesIn l) ≡ m → (n : Bool) → overRoom a b shape (seriesIn l) ≡ n
+            → Told (cond m (refused 9 0 0) (cond n (refused 10 0 0) (written shape (seriesIn l))))
         go true e n f = number-9 q shape ls rs t l v e
         go false e true f = number-10 q shape ls rs t l v e f
         go false e false f = vector-answered q shape ls rs t l v e f
@@ -45,13 +47,16 @@ module _ (s ll lr rl rr : List ℕ) (a b : ℕ) where
 
     on-right : (l : Vector) → takeVector 0 ll lr ≡ vector l → (w : TakenVector) → takeVector 1 rl rr ≡ w → Told (onVector w (λ r. running a b q l r))
     on-right l hl (vector r) e = ran l r hl e
-    on-right l hl (faulty n side i) e = let f = fault-of 1 rl rr n side i e in rw (f .names) (right-3-to-5 q asked l hl n i (f .least) (f .most) (e ∙ ap (λ x. faulty n x i) (f .names)))
+    on-right l hl (faulty n side i) e = let f = fault-of 1 rl rr n side i e in rw (f .names)
+        (right-3-to-5 q asked l hl n i (f .least) (f .most) (e ∙ ap (λ x. faulty n x i) (f .names)))
 
     on-left : (w : TakenVector) → takeVector 0 ll lr ≡ w → Told (onVector w (λ l. onVector (takeVector 1 rl rr) (λ r. running a b q l r)))
     on-left (vector l) e = on-right l e (takeVector 1 rl rr) refl
-    on-left (faulty n side i) e = let f = fault-of 0 ll lr n side i e in rw (f .names) (left-3-to-5 q asked n i (f .least) (f .most) (e ∙ ap (λ x. faulty n x i) (f .names)))
+    on-left (faulty n side i) e = let f = fault-of 0 ll lr n side i e in rw (f .names)
+        (left-3-to-5 q asked n i (f .least) (f .most) (e ∙ ap (λ x. faulty n x i) (f .names)))
 
-  on-query : (w : TakenQuery) → takeQuery s ≡ w → Told (onQuery w (λ q. onVector (takeVector 0 ll lr) (λ l. onVector (takeVector 1 rl rr) (λ r. running a b q l r))))
+  on-query : (w : TakenQuery) → takeQuery s ≡ w → Told
+      (onQuery w (λ q. onVector (takeVector 0 ll lr) (λ l. onVector (takeVector 1 rl rr) (λ r. running a b q l r))))
   on-query (query q) e = on-left q e (takeVector 0 ll lr) refl
   on-query badOperator e = number-1 e
   on-query malformed e = number-2 e

@@ -18,9 +18,11 @@ use Rattle.model.specs.Laws.Vector.{take-valid, taken-is}
 use Rattle.semantics.specs.Places.{Rank, rankBefore}
 use Rattle.semantics.specs.Events.{Ranked, Verdict, answer, duplicate}
 use Rattle.semantics.specs.Call.{Outcome, refused, call, concluded, fit}
-use Rattle.theorems.specs.Claims.Dealing.{Rising, Renumber, movedRanked, movedRank, movedVerdict, Deal, secondPile, pick, pile, wholePlaces, weave, mergedVerdict}
+use Rattle.theorems.specs.Claims.Dealing.{Rising, Renumber, movedRanked, movedRank, movedVerdict, Deal, secondPile, pick, pile, wholePlaces}
+use Rattle.theorems.specs.Claims.Dealing.{weave, mergedVerdict}
 use Rattle.theorems.specs.Claims.Partition.{isRefused, refusedOtherwise, Splits, Partition, Sides, HasSides}
-use Rattle.theorems.specs.Claims.Outcomes.{Taken, written, seriesIn, OutcomeOf, number-1, number-2, left-3-to-5, right-3-to-5, number-6, number-7-or-8, number-9, number-10, vector-answered}
+use Rattle.theorems.specs.Claims.Outcomes.{Taken, written, seriesIn, OutcomeOf, number-1, number-2, left-3-to-5, right-3-to-5, number-6}
+use Rattle.theorems.specs.Claims.Outcomes.{number-7-or-8, number-9, number-10, vector-answered}
 use Rattle.theorems.specs.Outcomes.{every-outcome, taken-call}
 use Rattle.theorems.specs.Dealing.Verdicts.{pileVerdict, verdicts, verdict-rising}
 use Rattle.theorems.specs.Dealing.Fitting.{Fits, fits-fit, Way, fine, too-big, no-room, fit-way, length-weave, bytes-weave, fits-weave}
@@ -46,8 +48,10 @@ module _ (a b : ℕ) (shape : Shape) (ρ₁ ρ₂ : Renumber) where
     all-answer : Rising rankBefore merged → Fits a b shape (seriesIn merged) → Claim (answer l) (answer m) (fit a b shape (seriesIn merged))
     all-answer order h =
         let f = fits-weave a b shape firsts seconds h in
-        let e₁ : fit a b shape (seriesIn l) ≡ written shape (seriesIn firsts) = sym (ap (fit a b shape) (series-same ρ₁ l)) ∙ fits-fit a b shape (seriesIn firsts) (f .0) in
-        let e₂ : fit a b shape (seriesIn m) ≡ written shape (seriesIn seconds) = sym (ap (fit a b shape) (series-same ρ₂ m)) ∙ fits-fit a b shape (seriesIn seconds) (f .1) in
+        let e₁ : fit a b shape (seriesIn l) ≡ written shape (seriesIn firsts) = sym (ap (fit a b shape) (series-same ρ₁ l))
+        ∙ fits-fit a b shape (seriesIn firsts) (f .0) in
+        let e₂ : fit a b shape (seriesIn m) ≡ written shape (seriesIn seconds) = sym (ap (fit a b shape) (series-same ρ₂ m))
+        ∙ fits-fit a b shape (seriesIn seconds) (f .1) in
         let e₃ = fits-fit a b shape (seriesIn merged) h in
         record {
           first-call = refl;
@@ -68,7 +72,8 @@ module _ (a b : ℕ) (shape : Shape) (ρ₁ ρ₂ : Renumber) where
           };
         }
 
-    fitted : Rising rankBefore merged → Way a b shape (seriesIn merged) (fit a b shape (seriesIn merged)) → refusedOtherwise (fit a b shape (seriesIn merged)) ≡ false
+    fitted : Rising rankBefore merged → Way a b shape (seriesIn merged) (fit a b shape (seriesIn merged))
+        → refusedOtherwise (fit a b shape (seriesIn merged)) ≡ false
         → Claim (answer l) (answer m) (fit a b shape (seriesIn merged))
     fitted order (fine h) r = all-answer order h
     fitted order (too-big e) r = never-so (rw e at r)
@@ -131,7 +136,8 @@ All-pick : (P : Series → Type 0) (d : ℕ → Bool) (bs : List Series) → All
 All-pick P d [] a = tt
 All-pick P d (b ∷ bs) a = cases (d zero) (λ e. rw e (a .0, All-pick P (λ i. d (suc i)) bs (a .1))) (λ e. rw e (All-pick P (λ i. d (suc i)) bs (a .1)))
 
-pick-valid : (shape : Shape) (d : ℕ → Bool) (bs : List Series) → Valid (record { shape = shape; series = bs }) → Valid (record { shape = shape; series = pick d bs })
+pick-valid : (shape : Shape) (d : ℕ → Bool) (bs : List Series) → Valid (record { shape = shape; series = bs })
+    → Valid (record { shape = shape; series = pick d bs })
 pick-valid shape d bs v =
     record {
       few = omega (arith, pick-shorter d bs, v .few);
@@ -140,7 +146,8 @@ pick-valid shape d bs v =
       series = All-pick (GoodSeries (shape .points)) d bs (v .series);
     }
 
-module _ (s ll lr rl rr : List ℕ) (bl : Bytes ll) (wl : Readings lr) (br : Bytes rl) (wr : Readings rr) (q : Query) (shape : Shape) (ls rs : List Series) (t : Taken s ll lr rl rr q shape ls rs) where
+module _ (s ll lr rl rr : List ℕ) (bl : Bytes ll) (wl : Readings lr) (br : Bytes rl) (wr : Readings rr) (q : Query) (shape : Shape)
+    (ls rs : List Series) (t : Taken s ll lr rl rr q shape ls rs) where
   pub left-valid : Valid (record { shape = shape; series = ls })
   left-valid = taken-is 0 ll lr _ bl wl (t .lefts) .valid
 
@@ -148,7 +155,8 @@ module _ (s ll lr rl rr : List ℕ) (bl : Bytes ll) (wl : Readings lr) (br : Byt
   right-valid = taken-is 1 rl rr _ br wr (t .rights) .valid
 
   pile-taken : (deal : Deal)
-      → Taken s (labelPart shape (pile deal left ls)) (readingsOf (pile deal left ls)) (labelPart shape (pile deal right rs)) (readingsOf (pile deal right rs)) q shape (pile deal left ls) (pile deal right rs)
+      → Taken s (labelPart shape (pile deal left ls)) (readingsOf (pile deal left ls)) (labelPart shape (pile deal right rs))
+      (readingsOf (pile deal right rs)) q shape (pile deal left ls) (pile deal right rs)
   pile-taken deal =
       record {
         asked = t .asked;

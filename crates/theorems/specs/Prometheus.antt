@@ -64,7 +64,8 @@ unfolding onlyMissing
 only-missing-at i [] e = no-reading-missing
 only-missing-at zero (x ∷ row) e = cases (missing x) (λ f. f) (λ f. absurd (false≢true (sym (ap (λ t. cond t (onlyMissing row) false) f) ∙ e)))
 only-missing-at (suc i) (x ∷ row) e =
-    cases (missing x) (λ f. only-missing-at i row (sym (ap (λ t. cond t (onlyMissing row) false) f) ∙ e)) (λ f. absurd (false≢true (sym (ap (λ t. cond t (onlyMissing row) false) f) ∙ e)))
+    cases (missing x) (λ f. only-missing-at i row (sym (ap (λ t. cond t (onlyMissing row) false) f) ∙ e))
+    (λ f. absurd (false≢true (sym (ap (λ t. cond t (onlyMissing row) false) f) ∙ e)))
 
 element-nil : (i : ℕ) (b : Series) → elementOf i b ++ [] ≡ elementOf i b
 element-nil i b = cases (missing (readingAt i b)) (λ e. rw e) (λ e. rw e)
@@ -84,7 +85,8 @@ module _ (k : SetRule) (quiet : adds k ≡ false) where
       go filled q = absurd (false≢true (sym q))
 
   -- the reading of the kept row at a point, also behind its end
-  reading-kept : (rs : List Placed) (j i : ℕ) (row : List ℕ) → getD (pointwise (setReading k rs) j row) i noReading ≡ cond (keepsIf k (someReading rs (j + i))) (getD row i noReading) noReading
+  reading-kept : (rs : List Placed) (j i : ℕ) (row : List ℕ)
+      → getD (pointwise (setReading k rs) j row) i noReading ≡ cond (keepsIf k (someReading rs (j + i))) (getD row i noReading) noReading
   reading-kept rs j i [] = cond-same (keepsIf k (someReading rs (j + i))) noReading
   reading-kept rs j zero (x ∷ row) = let z : j ≡ j + 0 = omega arith in set-reading rs j x ∙ ap (λ n. cond (keepsIf k (someReading rs n)) x noReading) z
   reading-kept rs j (suc i) (x ∷ row) =
@@ -100,7 +102,8 @@ module _ (k : SetRule) (quiet : adds k ≡ false) where
       here : readingAt i (keptRow b rs) ≡ cond (keepsIf k (someReading rs i)) (readingAt i b) noReading
       here = let z : 0 + i ≡ i = omega arith in reading-kept rs 0 i (b .row) ∙ ap (λ n. cond (keepsIf k (someReading rs n)) (readingAt i b) noReading) z
 
-      go : (t : Bool) (y : ℕ) → y ≡ cond t (readingAt i b) noReading → cond (missing y) [] (record { labels = b .labels; reading = y } ∷ []) ≡ cond t (elementOf i b) []
+      go : (t : Bool) (y : ℕ) → y ≡ cond t (readingAt i b) noReading
+          → cond (missing y) [] (record { labels = b .labels; reading = y } ∷ []) ≡ cond t (elementOf i b) []
       go true y e = rw e
       go false y e = rw (e, no-reading-missing)
 
@@ -131,7 +134,8 @@ module _ (k : SetRule) (quiet : adds k ≡ false) where
 
 -- matches by series and by elements
 
-keep-instant : (q : Query) (l : Labels) (i : ℕ) (rs : List Series) → keep (λ f. sameKey q l (f .labels)) (instant i rs) ≡ instant i (keep (λ r. sameKey q l (r .labels)) rs)
+keep-instant : (q : Query) (l : Labels) (i : ℕ) (rs : List Series)
+    → keep (λ f. sameKey q l (f .labels)) (instant i rs) ≡ instant i (keep (λ r. sameKey q l (r .labels)) rs)
 keep-instant q l i [] = refl
 keep-instant q l i (r ∷ rs) =
     cases (missing (readingAt i r))
@@ -142,7 +146,8 @@ abbrev matched : Query → ℕ → List Series → Labels → Bool
 matched q i rs l = not (isEmpty (keep (λ f. sameKey q l (f .labels)) (instant i rs)))
 
 -- the left elements that the rule wants
-wanted : (p : Labels → Bool) (i : ℕ) (ls : List Series) → gather (λ b. cond (p (b .labels)) (elementOf i b) []) ls ≡ keep (λ (e : Element). p (e .labels)) (instant i ls)
+wanted : (p : Labels → Bool) (i : ℕ) (ls : List Series)
+    → gather (λ b. cond (p (b .labels)) (elementOf i b) []) ls ≡ keep (λ (e : Element). p (e .labels)) (instant i ls)
 wanted p i [] = refl
 wanted p i (b ∷ bs) =
     cases (missing (readingAt i b))
@@ -159,7 +164,8 @@ abbrev optionally : (Placed → Option Series) → Placed → List (Ranked Rank 
 optionally o x = producedBy (x .place) (mark (x .place) (optional (o x)))
 
 settle-one : (x : Placed) (o : Option Series) (m : List (Ranked Rank Event)) (l : List (Ranked Rank Series)) → settle m ≡ answer l
-    → settle (producedBy (x .place) (mark (x .place) (optional o)) ++ m) ≡ answer (map (λ b. record { rank = record { producer = x .place; earliest = x .place }; what = b }) (listed o) ++ l)
+    → settle (producedBy (x .place) (mark (x .place) (optional o)) ++ m)
+    ≡ answer (map (λ b. record { rank = record { producer = x .place; earliest = x .place }; what = b }) (listed o) ++ l)
 settle-one x none m l e = e
 settle-one x (some b) m l e = rw e
 
@@ -197,7 +203,8 @@ module _ (q : Query) (k : SetRule) (quiet : adds k ≡ false) (ls rs : List Seri
   rule-result : (x : Placed) → emission q (ruleOf q (setRule k) (look (setRule k) ls rs)) xs x ≡ optionally result x
   rule-result x = ap (λ l. producedBy (x .place) (mark (x .place) l)) (go (x .place .side))
     where
-      go : (s : Side) → cond (onSide left s) (leftResult (unmatched k none) (met k) (x .series) (keyed (x .series))) (cond (adds k && true) (rightResult (x .series) (ofSide left (ofKey q (x .series .labels) xs))) [])
+      go : (s : Side) → cond (onSide left s) (leftResult (unmatched k none) (met k) (x .series) (keyed (x .series)))
+          (cond (adds k && true) (rightResult (x .series) (ofSide left (ofKey q (x .series .labels) xs))) [])
           ≡ optional (onLeft s (resultOf k (x .series) (keyed (x .series))))
       go left = left-result k (x .series) (keyed (x .series))
       go right = rw quiet
@@ -221,7 +228,8 @@ module _ (q : Query) (k : SetRule) (quiet : adds k ≡ false) (ls rs : List Seri
   instant-gather : (i : ℕ) (f : Series → List Series) (bs : List Series) → instant i (gather f bs ++ []) ≡ gather (λ b. instant i (f b)) bs
   instant-gather i f [] = refl
   instant-gather i f (b ∷ bs) =
-      ap (instant i) (append-assoc (f b) (gather f bs) []) ∙ gather-append (elementOf i) (f b) (gather f bs ++ []) ∙ ap (λ l. instant i (f b) ++ l) (instant-gather i f bs)
+      ap (instant i) (append-assoc (f b) (gather f bs) []) ∙ gather-append (elementOf i) (f b) (gather f bs ++ [])
+      ∙ ap (λ l. instant i (f b) ++ l) (instant-gather i f bs)
 
   some-matched : (i : ℕ) (b : Series) → someReading (keyed b) i ≡ matched q i rs (b .labels)
   some-matched i b =

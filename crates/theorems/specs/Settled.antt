@@ -49,7 +49,9 @@ starred =
     example (merge (one ∷ N ∷ []) (N ∷ two ∷ [])) overlapping ∷
     -- One-to-one left rows [1,N,N], [N,2,N], [N,N,3]: [1,2,3], third's labels. (Zeros are added, and names kept.)
     example
-    (asked (ask 0 0 0 1 [] []) 3 (series (97 ∷ []) (press A ∷ []) (one ∷ N ∷ N ∷ []) ∷ series (98 ∷ []) (press A ∷ []) (N ∷ two ∷ N ∷ []) ∷ series (99 ∷ []) (press A ∷ []) (N ∷ N ∷ three ∷ []) ∷ []) (pressA (zero ∷ zero ∷ zero ∷ []) ∷ []))
+    (asked (ask 0 0 0 1 [] []) 3
+    (series (97 ∷ []) (press A ∷ []) (one ∷ N ∷ N ∷ []) ∷ series (98 ∷ []) (press A ∷ []) (N ∷ two ∷ N ∷ []) ∷ series (99 ∷ []) (press A ∷ [])
+    (N ∷ N ∷ three ∷ []) ∷ []) (pressA (zero ∷ zero ∷ zero ∷ []) ∷ []))
     (outcome (gives 3 (series (99 ∷ []) (press A ∷ []) (one ∷ two ∷ three ∷ []) ∷ []))) ∷
     -- `unless` [1,2] against [N,5]: [1,N]. [1,N] against [4,N]: dropped. Unmatched [N,N]: kept.
     example (asked (plainly 18) 2 (pressA (one ∷ two ∷ []) ∷ []) (pressA (N ∷ five ∷ []) ∷ [])) (outcome (gives 2 (pressA (one ∷ N ∷ []) ∷ []))) ∷
@@ -60,7 +62,8 @@ starred =
     example (asked (ask 16 0 0 2 [] []) 1 (pressA (three ∷ []) ∷ []) (pressA (N ∷ []) ∷ [])) (outcome (gives 1 (pressA (one ∷ []) ∷ []))) ∷
     -- Left {press="A"} [N,2], right {} [7,7]: `default` [7,2]; `or` both series.
     example (asked (plainly 3) 2 (pressA (N ∷ two ∷ []) ∷ []) (series [] [] (seven ∷ seven ∷ []) ∷ [])) (outcome (gives 2 (pressA (seven ∷ two ∷ []) ∷ []))) ∷
-    example (asked (plainly 17) 2 (pressA (N ∷ two ∷ []) ∷ []) (series [] [] (seven ∷ seven ∷ []) ∷ [])) (outcome (gives 2 (pressA (N ∷ two ∷ []) ∷ series [] [] (seven ∷ seven ∷ []) ∷ []))) ∷
+    example (asked (plainly 17) 2 (pressA (N ∷ two ∷ []) ∷ []) (series [] [] (seven ∷ seven ∷ []) ∷ []))
+    (outcome (gives 2 (pressA (N ∷ two ∷ []) ∷ series [] [] (seven ∷ seven ∷ []) ∷ []))) ∷
     []
 
 abbrev pub Settled : Type 0

@@ -12,7 +12,8 @@ use lib.Ieee.Fits.{add-fits, sub-fits, mul-fits, div-fits, rem-fits}
 use lib.Ieee.Bits.{toBits-lt, ofBits-fits}
 use borrow.Author.Tests.{ltb-false}
 use Rattle.operator.specs.declared.Operator.{Operator}
-use Rattle.operator.specs.Kinds.{Arithmetic, sum, difference, product, quotient, remainder, Comparison, Kind, arithmetic, comparison, setRule, fallback, notCarried, SetRule, whereFound, whereNone, filled, kindOf}
+use Rattle.operator.specs.Kinds.{Arithmetic, sum, difference, product, quotient, remainder, Comparison, Kind, arithmetic, comparison, setRule}
+use Rattle.operator.specs.Kinds.{fallback, notCarried, SetRule, whereFound, whereNone, filled, kindOf}
 use Rattle.model.specs.Limits.{maxTags, maxPoints}
 use Rattle.model.specs.Lists.{cases, All}
 use Rattle.model.specs.Reading.{missing, noReading, calculated, holds, oneOrZero, compared, scalarOfKind, scalarOp}
@@ -29,7 +30,9 @@ use Rattle.model.specs.Laws.Vector.{take-valid, readings-length, labels-bytes, 
 use Rattle.semantics.specs.Places.{Placed, numbered, placed, Rank}
 use Rattle.semantics.specs.Events.{Ranked, Verdict, answer, duplicate}
 use Rattle.semantics.specs.Rules.{withRow, mergedInto}
-use Rattle.semantics.specs.Binop.{editedBy, adjustBinaryOpTags, paired, skipList, joinedLabels, joinedPair, joinRows, joinWork, allowedOverlaps, matchedRule, Found, firstReading, someReading, filledFrom, setReading, pointwise, unlessOnlyMissing, staying, met, alone, adds, Seen, unmatched, scalarSide, isBare, look, ruleOf}
+use Rattle.semantics.specs.Binop.{editedBy, adjustBinaryOpTags, paired, skipList, joinedLabels, joinedPair, joinRows, joinWork, allowedOverlaps}
+use Rattle.semantics.specs.Binop.{matchedRule, Found, firstReading, someReading, filledFrom, setReading, pointwise, unlessOnlyMissing, staying, met}
+use Rattle.semantics.specs.Binop.{alone, adds, Seen, unmatched, scalarSide, isBare, look, ruleOf}
 use Rattle.semantics.specs.Call.{refused, answered, concluded, verdict, fit, overTags}
 use Rattle.theorems.specs.Laws.Sound.{Each, Keeps, Sure, Holds, run-holds, dropping-keeps, one-to-one-keeps, joined-keeps, set-rule-keeps}
 use Rattle.theorems.specs.Claims.Outcomes.{written, seriesIn}
@@ -133,7 +136,11 @@ module _ (p : ℕ) where
       go false =
           record {
             labels = h .labels;
-            row = record { width = overwritten-wide (b .row) (c .row) ∙ h .row .width; words = overwritten-words (b .row) (c .row) (h .row .words) (k .row .words) };
+            row = record {
+              width = overwritten-wide (b .row) (c .row)
+                  ∙ h .row .width;
+              words = overwritten-words (b .row) (c .row) (h .row .words) (k .row .words);
+            };
           }
 
   edited-well : (m : Matching) (names : Names) (keepNames : Bool) (l : Labels) → WellFormed l → WellFormed (editedBy m names keepNames l)
@@ -153,7 +160,8 @@ module _ (p : ℕ) where
   unfolding joinedLabels
   joined-proper q b c h k =
       record {
-        labels = set-tags-well (q .joinList) (skipList (q .matching) (q .matchingList)) (c .labels) _ (k .labels) (clear-well (shouldResetMetricGroup q) (b .labels) (h .labels));
+        labels = set-tags-well (q .joinList) (skipList (q .matching) (q .matchingList)) (c .labels) _ (k .labels)
+            (clear-well (shouldResetMetricGroup q) (b .labels) (h .labels));
         row = k .row;
       }
 
@@ -168,7 +176,8 @@ module _ (p : ℕ) where
   matched-keeps : (q : Query) (j : Join) → Keeps (Proper p) (matchedRule q j)
   matched-keeps q oneToOne = one-to-one-keeps (Proper p) (allowedOverlaps q) (merge-sure (allowedOverlaps q)) (paired q) (paired-proper q)
   matched-keeps q (group many) =
-      joined-keeps (Proper p) (allowedOverlaps q) (merge-sure (allowedOverlaps q)) (joinedPair q) (joined-proper q) (joinWork q many) (worked-proper q many) many
+      joined-keeps (Proper p) (allowedOverlaps q) (merge-sure (allowedOverlaps q)) (joinedPair q) (joined-proper q) (joinWork q many)
+      (worked-proper q many) many
 
   FoundWord : Option Found → Type 0
   FoundWord none = Unit {0}
@@ -177,7 +186,8 @@ module _ (p : ℕ) where
   found-word : (rs : List Placed) (i : ℕ) → Each (Proper p) rs → FoundWord (firstReading rs i)
   unfolding firstReading FoundWord
   found-word [] i a = tt
-  found-word (r ∷ rs) i a = cases (missing (getD (r .series .row) i noReading)) (λ e. rw e (found-word rs i (a .1))) (λ e. rw e (word-at (r .series .row) i (a .0 .row .words)))
+  found-word (r ∷ rs) i a = cases (missing (getD (r .series .row) i noReading)) (λ e. rw e (found-word rs i (a .1)))
+      (λ e. rw e (word-at (r .series .row) i (a .0 .row .words)))
 
   filled-word : (o : Option Found) (x : ℕ) → FoundWord o → Word x → Word (filledFrom o x)
   unfolding FoundWord
@@ -205,7 +215,14 @@ module _ (p : ℕ) where
   unfolding met
   met-sure k b rs h a =
       staying-sure k _
-      (record { labels = h .labels; row = record { width = pointwise-length _ 0 (b .row) ∙ h .row .width; words = pointwise-words (setReading k rs) (set-word k rs a) 0 (b .row) (h .row .words) } })
+      (record {
+        labels = h .labels;
+        row = record {
+          width = pointwise-length _ 0 (b .row)
+              ∙ h .row .width;
+          words = pointwise-words (setReading k rs) (set-word k rs a) 0 (b .row) (h .row .words);
+        };
+      })
 
   alone-sure : (k : SetRule) (b : Series) → Proper p b → Sure (Proper p) (alone k b)
   alone-sure whereFound b h = tt
@@ -219,8 +236,10 @@ module _ (p : ℕ) where
   rule-keeps : (q : Query) (k : Kind) (c : Seen) → Sure (Proper p) (c .fallbackTo) → Keeps (Proper p) (ruleOf q k c)
   rule-keeps q (arithmetic a) c s = dropping-keeps (Proper p) (matchedRule q (q .join)) (matched-keeps q (q .join))
   rule-keeps q (comparison t) c s = matched-keeps q (q .join)
-  rule-keeps q (setRule k) c s = set-rule-keeps (Proper p) (adds k && c .addsRight) (unmatched k (c .fallbackTo)) (met k) (unmatched-sure k (c .fallbackTo) s) (met-sure k)
-  rule-keeps q (fallback k) c s = set-rule-keeps (Proper p) (adds k && c .addsRight) (unmatched k (c .fallbackTo)) (met k) (unmatched-sure k (c .fallbackTo) s) (met-sure k)
+  rule-keeps q (setRule k) c s = set-rule-keeps (Proper p) (adds k && c .addsRight) (unmatched k (c .fallbackTo)) (met k)
+      (unmatched-sure k (c .fallbackTo) s) (met-sure k)
+  rule-keeps q (fallback k) c s = set-rule-keeps (Proper p) (adds k && c .addsRight) (unmatched k (c .fallbackTo)) (met k)
+      (unmatched-sure k (c .fallbackTo) s) (met-sure k)
   rule-keeps q notCarried c s = record { keeps = λ s xs a b. tt }
 
   scalar-sure : (rs : List Series) → All (Proper p) rs → Sure (Proper p) (scalarSide rs)
@@ -255,8 +274,16 @@ module _ (p : ℕ) where
   good-each : (bs : List Series) → All (Proper p) bs → overTags bs ≡ false → All (GoodSeries p) bs
   good-each [] a t = tt
   good-each (b ∷ bs) a t =
-      let h = neither-of (ltb maxTags (length (b .labels .tags))) (overTags bs) t in
-      (record { labels = a .0 .labels; few = ltb-false maxTags (length (b .labels .tags)) (h .0); width = a .0 .row .width; readings = a .0 .row .words }, good-each bs (a .1) (h .1))
+      let h = neither-of (ltb maxTags (length (b .labels .tags))) (overTags bs) t in (
+        record {
+          labels = a .0 .labels;
+          few = ltb-false maxTags (length (b .labels .tags))
+              (h .0);
+          width = a .0 .row .width;
+          readings = a .0 .row .words;
+        },
+        good-each bs (a .1) (h .1),
+      )
 
 series-each : (P : Series → Type 0) (l : List (Ranked Rank Series)) → All (λ e. P (e .what)) l → All P (seriesIn l)
 series-each P [] a = tt
@@ -294,7 +321,8 @@ module _ (a b n p : ℕ) (x y : List ℕ) where
         again = λ side. rw (count, labels, readings) (taken-again side v h);
       }
 
-  fitted : (shape : Shape) (ss : List Series) → shape .points ≤ maxPoints → All (Proper (shape .points)) ss → Way a b shape ss (fit a b shape ss) → fit a b shape ss ≡ answered n p x y → ValidAnswer a b n p x y
+  fitted : (shape : Shape) (ss : List Series) → shape .points ≤ maxPoints → All (Proper (shape .points)) ss → Way a b shape ss (fit a b shape ss)
+      → fit a b shape ss ≡ answered n p x y → ValidAnswer a b n p x y
   fitted shape ss s g (too-big w) e = not-refused 9 0 0 n p x y (sym w ∙ e)
   fitted shape ss s g (no-room w) e = not-refused 10 0 0 n p x y (sym w ∙ e)
   fitted shape ss s g (fine f) e =
@@ -302,7 +330,8 @@ module _ (a b n p : ℕ) (x y : List ℕ) where
       (record { few = f .few; points = s; bytes = f .bytes; series = good-each (shape .points) ss g (f .tags) })
       f (sym (fits-fit a b shape ss f) ∙ e)
 
-  concluded-valid : (shape : Shape) → shape .points ≤ maxPoints → (v : Verdict) → Holds (Proper (shape .points)) v → concluded a b shape v ≡ answered n p x y → ValidAnswer a b n p x y
+  concluded-valid : (shape : Shape) → shape .points ≤ maxPoints → (v : Verdict) → Holds (Proper (shape .points)) v
+      → concluded a b shape v ≡ answered n p x y → ValidAnswer a b n p x y
   concluded-valid shape s (duplicate c) h e = not-refused _ _ _ n p x y e
   concluded-valid shape s (answer l) h e = fitted shape (seriesIn l) s (series-each _ l h) (fit-way a b shape (seriesIn l)) e
 
@@ -312,5 +341,6 @@ answers-are-valid s ll lr rl rr bl wl br wr a b n p x y e =
     let hl = left-valid s ll lr rl rr bl wl br wr (o .q) (o .shape) (o .ls) (o .rs) (o .taken) in
     let hr = right-valid s ll lr rl rr bl wl br wr (o .q) (o .shape) (o .ls) (o .rs) (o .taken) in
     concluded-valid a b n p x y (o .shape) (hl .points) (verdict (o .q) (o .ls) (o .rs))
-    (verdict-proper (o .shape .points) (o .q) (o .ls) (o .rs) (proper-each (o .shape .points) (o .ls) (hl .series)) (proper-each (o .shape .points) (o .rs) (hr .series)))
+    (verdict-proper (o .shape .points) (o .q) (o .ls) (o .rs) (proper-each (o .shape .points) (o .ls) (hl .series))
+    (proper-each (o .shape .points) (o .rs) (hr .series)))
     (sym (taken-call s ll lr rl rr (o .q) (o .shape) (o .ls) (o .rs) (o .taken) a b) ∙ e)

@@ -8,18 +8,20 @@ use lib.Dec.{leb, eqb}
 use lib.ListN.{length, take, drop, length-append, length-map}
 use lib.Seq.{sets, length-sets, sets-eq, take-at, drop-at}
 use borrow.Author.Tests.{leb-true, eqb-true}
-use Rattle.model.specs.Limits.{maxSeries, maxPoints}
+use Rattle.model.specs.Limits.{maxSeries, maxPoints, sizesLength}
 use Rattle.model.specs.Labels.{Labels}
 use Rattle.model.specs.Record.{encode}
-use Rattle.model.specs.Vector.{Shape, Vector, labelsOfAll, labelBytes, TakenVector, vector, faulty, Records, records, badRecord, recordsIn, seriesOf, withReadings, withSizes, twoBytesAt, takeVector}
+use Rattle.model.specs.Vector.{Shape, Vector, labelsOfAll, labelBytes, TakenVector, vector, faulty, Records, records}
+use Rattle.model.specs.Vector.{badRecord, recordsIn, seriesOf, withReadings, withSizes, twoBytesAt, takeVector}
 use Rattle.model.specs.Laws.Booleans.{both-of}
 use Rattle.model.specs.Laws.Record.{decode-is}
 use Rattle.model.specs.Laws.Vector.{ReadAs, records-read, read-bytes, series-count, series-labels, series-bytes}
-use Rattle.model.specs.Laws.Faults.{onSide, take-side, Fault, cutFault, keyFault, readingsFault, take-fault}
-use Rattle.side_parts.specs.Sides.{labelsIn, sideOf, ends, starts, Positions}
+use Rattle.model.specs.Laws.Faults.{onSide, take-side}
+use Rattle.side_parts.specs.Sides.{labelsIn, lentSeries, ends, starts, Positions}
 use Rattle.side_parts.specs.SideLaws.{starts-count, labels-starts, positions-starts}
 use Rattle.timeseries.specs.record_walk.Walks.{noted}
-use Rattle.timeseries.specs.Takes.{takenOf, takenNumber, takenPlace, notedIn, TakenInto}
+use Rattle.timeseries.specs.Takes.{TakenAnswer, sizes, takenAnswer, vectorAnswer, answerNumber, answerPlace}
+use Rattle.timeseries.specs.Takes.{takenNumber, takenPlace, notedIn, TakenInto}
 use Rattle.timeseries.specs.declared.Taken.{Taken}
 use Rattle.timeseries.specs.declared.Taken.the-variants as T
 
@@ -35,27 +37,16 @@ read-positions size (l ∷ ls) s h e =
 
 -- the code's answer t, read back: what taking on a side gives
 
-module _ (side : ℕ) (s x : List ℕ) (t : Taken) (ht : t ≡ takenOf (takeVector 0 s x)) where
-  refused : (o : TakenVector) → takeVector 0 s x ≡ o → 0 < takenNumber t → t ≡ takenOf o → takeVector side s x ≡ faulty (takenNumber t) side (takenPlace t)
-  refused (vector v) e h f = absurd (let z : takenNumber t ≡ 0 = ap takenNumber f in omega (arith, h, z))
-  refused (faulty k other i) e h f = take-side side 0 s x ∙ ap (onSide side) e ∙ go (take-fault 0 other s x k i e)
-    where
-      go : Fault k i → faulty k side i ≡ faulty (takenNumber t) side (takenPlace t)
-      go (cutFault z) = let y : t ≡ T.Cut i = f ∙ rw z in rw (y, z)
-      go (keyFault z) = let y : t ≡ T.BadKey i = f ∙ rw z in rw (y, z)
-      go (readingsFault z w) = let y : t ≡ T.Readings = f ∙ rw z in rw (y, z, w)
+module _ (side : ℕ) (s x : List ℕ) (t : Taken) (ht : takenAnswer t ≡ vectorAnswer (takeVector 0 s x)) where
+  refused : (o : TakenVector) → takeVector 0 s x ≡ o → 0 < takenNumber t → takenAnswer t ≡ vectorAnswer o
+      → takeVector side s x ≡ faulty (takenNumber t) side (takenPlace t)
+  refused (vector v) e h f = absurd (let z : takenNumber t ≡ 0 = ap answerNumber f in omega (arith, h, z))
+  refused (faulty k other i) e h f =
+      take-side side 0 s x ∙ ap (onSide side) e
+      ∙ ap (λ (a : TakenAnswer). faulty (answerNumber a) side (answerPlace a)) (sym f)
 
   pub taken-refused : 0 < takenNumber t → takeVector side s x ≡ faulty (takenNumber t) side (takenPlace t)
   taken-refused h = refused (takeVector 0 s x) refl h ht
-
-  pub taken-cut : (i : ℕ) → t ≡ T.Cut i → takeVector side s x ≡ faulty 3 side i
-  taken-cut i e = taken-refused (rw e (omega arith)) ∙ rw e
-
-  pub taken-bad-key : (i : ℕ) → t ≡ T.BadKey i → takeVector side s x ≡ faulty 4 side i
-  taken-bad-key i e = taken-refused (rw e (omega arith)) ∙ rw e
-
-  pub taken-readings : t ≡ T.Readings → takeVector side s x ≡ faulty 5 side 0
-  taken-readings e = taken-refused (rw e (omega arith)) ∙ rw e
 
 -- a vector that is taken: w are the positions of its records in the array; x are its readings
 pub record Parts (array x w : List ℕ) (v : Vector) : Type 0 where
@@ -66,7 +57,9 @@ pub record Parts (array x w : List ℕ) (v : Vector) : Type 0 where
   pub series : seriesOf (v .shape .points) (labelsOfAll (v .series)) x ≡ v .series
   pub positions : w ≡ starts 0 (labelsOfAll (v .series))
 
-parts-read : (n : ℕ) (shape : Shape) (s x : List ℕ) (ls : List Labels) → n ≤ maxSeries → shape .points ≤ maxPoints → recordsIn n 0 s ≡ records ls → length x ≡ n * shape .points → Parts s x (noted (length s) n s) (record { shape = shape; series = seriesOf (shape .points) ls x })
+parts-read : (n : ℕ) (shape : Shape) (s x : List ℕ) (ls : List Labels) → n ≤ maxSeries → shape .points ≤ maxPoints
+    → recordsIn n 0 s ≡ records ls → length x ≡ n * shape .points
+    → Parts s x (noted (length s) n s) (record { shape = shape; series = seriesOf (shape .points) ls x })
 parts-read n shape s x ls hn hp f h =
     let read = records-read n 0 s ls f in
     let count : length (seriesOf (shape .points) ls x) ≡ n = series-count (shape .points) ls x ∙ read .count in
@@ -81,19 +74,22 @@ parts-read n shape s x ls hn hp f h =
       positions = ap (λ (m : ℕ). noted (length s) m s) (sym (read .count)) ∙ read-positions (length s) ls s (omega arith) (read .reads) ∙ rw (labels, first);
     }
 
-readings-parts : (side n : ℕ) (shape : Shape) (s x : List ℕ) (v : Vector) (o : Records) → n ≤ maxSeries → shape .points ≤ maxPoints → recordsIn n 0 s ≡ o → withReadings side n shape x o ≡ vector v → Parts s x (noted (length s) n s) v
+readings-parts : (side n : ℕ) (shape : Shape) (s x : List ℕ) (v : Vector) (o : Records) → n ≤ maxSeries
+    → shape .points ≤ maxPoints → recordsIn n 0 s ≡ o → withReadings side n shape x o ≡ vector v → Parts s x (noted (length s) n s) v
 readings-parts side n shape s x v (badRecord k i) hn hp f e = absurd (let z : _≡_ {A = ℕ} 0 1 = cc in omega arith)
 readings-parts side n shape s x v (records ls) hn hp f e = go (eqb (length x) (n * shape .points)) refl e
   where
-    go : (b : Bool) → eqb (length x) (n * shape .points) ≡ b → cond b (vector (record { shape = shape; series = seriesOf (shape .points) ls x })) (faulty 5 side 0) ≡ vector v → Parts s x (noted (length s) n s) v
+    go : (b : Bool) → eqb (length x) (n * shape .points) ≡ b
+        → cond b (vector (record { shape = shape; series = seriesOf (shape .points) ls x })) (faulty 5 side 0) ≡ vector v
+        → Parts s x (noted (length s) n s) v
     go false h e = absurd (let z : _≡_ {A = ℕ} 0 1 = cc in omega arith)
     go true h e =
         let hv : record { shape = shape; series = seriesOf (shape .points) ls x } ≡ v = cc in
         rw hv at (parts-read n shape s x ls hn hp f (eqb-true (length x) (n * shape .points) h))
 
-pub taken-parts : (side : ℕ) (s x : List ℕ) (v : Vector) → takeVector side s x ≡ vector v → Parts (drop 6 s) x (notedIn s) v
+pub taken-parts : (side : ℕ) (s x : List ℕ) (v : Vector) → takeVector side s x ≡ vector v → Parts (drop sizesLength s) x (notedIn s) v
 unfolding takeVector
-taken-parts side s x v e = go (leb 6 (length s)) e
+taken-parts side s x v e = go (leb sizesLength (length s)) e
   where
     n : ℕ
     n = twoBytesAt s 0
@@ -102,16 +98,20 @@ taken-parts side s x v e = go (leb 6 (length s)) e
     shape = record { points = twoBytesAt s 2 }
 
     good : Bool
-    good = leb n maxSeries && (leb (shape .points) maxPoints && eqb (length (drop 6 s)) (twoBytesAt s 4))
+    good = leb n maxSeries && (leb (shape .points) maxPoints && eqb (length (drop sizesLength s)) (twoBytesAt s 4))
 
-    sized : (b : Bool) → good ≡ b → cond b (withReadings side n shape x (recordsIn n 0 (drop 6 s))) (faulty 3 side 0) ≡ vector v → Parts (drop 6 s) x (cond b (noted (length (drop 6 s)) n (drop 6 s)) []) v
+    sized : (b : Bool) → good ≡ b
+        → cond b (withReadings side n shape x (recordsIn n 0 (drop sizesLength s))) (faulty 3 side 0) ≡ vector v
+        → Parts (drop sizesLength s) x (cond b (noted (length (drop sizesLength s)) n (drop sizesLength s)) []) v
     sized true g e =
-        let y = both-of (leb n maxSeries) (leb (shape .points) maxPoints && eqb (length (drop 6 s)) (twoBytesAt s 4)) g in
-        let z = both-of (leb (shape .points) maxPoints) (eqb (length (drop 6 s)) (twoBytesAt s 4)) (y .1) in
-        readings-parts side n shape (drop 6 s) x v (recordsIn n 0 (drop 6 s)) (leb-true n maxSeries (y .0)) (leb-true (shape .points) maxPoints (z .0)) refl e
+        let y = both-of (leb n maxSeries) (leb (shape .points) maxPoints && eqb (length (drop sizesLength s)) (twoBytesAt s 4)) g in
+        let z = both-of (leb (shape .points) maxPoints) (eqb (length (drop sizesLength s)) (twoBytesAt s 4)) (y .1) in
+        readings-parts side n shape (drop sizesLength s) x v (recordsIn n 0 (drop sizesLength s)) (leb-true n maxSeries (y .0))
+        (leb-true (shape .points) maxPoints (z .0)) refl e
     sized false g e = absurd (let z : _≡_ {A = ℕ} 0 1 = cc in omega arith)
 
-    go : (b : Bool) → cond b (withSizes side n shape (twoBytesAt s 4) (drop 6 s) x) (faulty 3 side 0) ≡ vector v → Parts (drop 6 s) x (cond (b && good) (noted (length (drop 6 s)) n (drop 6 s)) []) v
+    go : (b : Bool) → cond b (withSizes side n shape (twoBytesAt s 4) (drop sizesLength s) x) (faulty 3 side 0) ≡ vector v
+        → Parts (drop sizesLength s) x (cond (b && good) (noted (length (drop sizesLength s)) n (drop sizesLength s)) []) v
     go true e = sized good refl e
     go false e = absurd (let z : _≡_ {A = ℕ} 0 1 = cc in omega arith)
 
@@ -121,12 +121,13 @@ pub record VectorTaken (side : ℕ) (s x : List ℕ) (n p : ℕ) : Type 0 where
   pub taken : takeVector side s x ≡ vector v
   pub count : length (v .series) ≡ n
   pub points : v .shape .points ≡ p
-  pub parts : Parts (drop 6 s) x (notedIn s) v
+  pub parts : Parts (drop sizesLength s) x (notedIn s) v
 
-pub taken-vector : (side : ℕ) (s x : List ℕ) (t : Taken) → t ≡ takenOf (takeVector 0 s x) → (n p : ℕ) → t ≡ T.Vector n p → VectorTaken side s x n p
-taken-vector side s x t ht n p e = go (takeVector 0 s x) refl (sym e ∙ ht)
+pub taken-vector : (side : ℕ) (s x : List ℕ) (t : Taken) → takenAnswer t ≡ vectorAnswer (takeVector 0 s x)
+    → (n p : ℕ) → t ≡ T.Vector n p → VectorTaken side s x n p
+taken-vector side s x t ht n p e = go (takeVector 0 s x) refl (rw e at ht)
   where
-    go : (o : TakenVector) → takeVector 0 s x ≡ o → T.Vector n p ≡ takenOf o → VectorTaken side s x n p
+    go : (o : TakenVector) → takeVector 0 s x ≡ o → sizes n p ≡ vectorAnswer o → VectorTaken side s x n p
     go (vector v) f g = record {
       v = v;
       taken = take-side side 0 s x ∙ ap (onSide side) f;
@@ -134,15 +135,11 @@ taken-vector side s x t ht n p e = go (takeVector 0 s x) refl (sym e ∙ ht)
       points = cc;
       parts = taken-parts 0 s x v f;
     }
-    go (faulty k other i) f g = other-case (eqb k 3) (eqb k 4) g
-      where
-        other-case : (b c : Bool) → T.Vector n p ≡ cond b (T.Cut i) (cond c (T.BadKey i) T.Readings) → VectorTaken side s x n p
-        other-case true c g = absurd (let z : _≡_ {A = ℕ} 0 1 = cc in omega arith)
-        other-case false true g = absurd (let z : _≡_ {A = ℕ} 0 1 = cc in omega arith)
-        other-case false false g = absurd (let z : _≡_ {A = ℕ} 0 1 = cc in omega arith)
+    go (faulty k other i) f g = absurd (let z : _≡_ {A = ℕ} 0 1 = cc in omega arith)
 
 -- the positions stored over those before: the front is the vector's, what lies behind stays
-module _ (before w after : List ℕ) (ls : List Labels) (noted-so : w ≡ starts 0 ls) (stored : after ≡ sets before 0 w) (room : length ls + 1 ≤ length before) where
+module _ (before w after : List ℕ) (ls : List Labels) (noted-so : w ≡ starts 0 ls) (stored : after ≡ sets before 0 w)
+    (room : length ls + 1 ≤ length before) where
   stored-so : after ≡ starts 0 ls ++ drop (length ls + 1) before
   stored-so =
       let size : length (starts 0 ls) ≡ length ls + 1 = starts-count 0 ls in
@@ -168,23 +165,25 @@ pub record SideTaken (side : ℕ) (s x at : List ℕ) (n p : ℕ) : Type 0 where
   pub few : n ≤ maxSeries
   pub narrow : p ≤ maxPoints
   pub rows : length x ≡ n * p
-  pub array : drop 6 s ≡ labelBytes (v .series)
+  pub array : drop sizesLength s ≡ labelBytes (v .series)
   pub starting : take (n + 1) at ≡ starts 0 (labelsOfAll (v .series))
-  pub positions : Positions (drop 6 s) (take (n + 1) at)
+  pub positions : Positions (drop sizesLength s) (take (n + 1) at)
   pub entries : length (take (n + 1) at) ≡ n + 1
-  pub labels : labelsIn (drop 6 s) (take (n + 1) at) ≡ labelsOfAll (v .series)
-  pub series : sideOf (drop 6 s) (take (n + 1) at) p x ≡ v .series
+  pub labels : labelsIn (drop sizesLength s) (take (n + 1) at) ≡ labelsOfAll (v .series)
+  pub series : lentSeries (drop sizesLength s) (take (n + 1) at) p x ≡ v .series
 
-module _ (side : ℕ) (s x before after : List ℕ) (room : length before ≡ 513) (t : Taken) (into : TakenInto s x before t after) (n p : ℕ) (e : t ≡ T.Vector n p) where
+module _ (side : ℕ) (s x before after : List ℕ) (room : length before ≡ 513) (t : Taken) (into : TakenInto s x before t after)
+    (n p : ℕ) (e : t ≡ T.Vector n p) where
   pub side-taken : SideTaken side s x after n p
   side-taken =
       let w : VectorTaken side s x n p = taken-vector side s x t (into .answer) n p e in
       let ls = labelsOfAll (w .v .series) in
       let many : length ls ≡ n = length-map (w .v .series) (λ y. y .labels) ∙ w .count in
       let few : n ≤ maxSeries = omega (arith, w .parts .few, w .count) in
-      let front : take (n + 1) after ≡ starts 0 ls = ap (λ (m : ℕ). take (m + 1) after) (sym many) ∙ positions-front before (notedIn s) after ls (w .parts .positions) (into .positions) (omega (arith, many, few, room)) in
+      let front : take (n + 1) after ≡ starts 0 ls = ap (λ (m : ℕ). take (m + 1) after) (sym many)
+      ∙ positions-front before (notedIn s) after ls (w .parts .positions) (into .positions) (omega (arith, many, few, room)) in
       let array = w .parts .bytes in
-      let found : labelsIn (drop 6 s) (take (n + 1) after) ≡ ls = rw (front, array) (labels-starts (w .v .series)) in
+      let found : labelsIn (drop sizesLength s) (take (n + 1) after) ≡ ls = rw (front, array) (labels-starts (w .v .series)) in
       record {
         v = w .v;
         taken = w .taken;

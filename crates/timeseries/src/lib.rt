@@ -10,7 +10,7 @@ ghost use Rattle.model.specs.Vector.{twoBytesAt};
 ghost use lib.ListN.{length};
 ghost use Rattle.timeseries.specs.Takes.{TakenInto};
 
-fn wide(x: u8) -> usize
+fn widened(x: u8) -> usize
     ensures { λ r. ⌜ (r ≡ x) × (r < 256) ⌝ }
 {
     x as usize
@@ -21,7 +21,7 @@ fn two_bytes_at(s: &[u8], at: usize) -> usize
     requires { ⌜ at + 1 < length (now s) ⌝ }
     ensures { λ r. ⌜ r ≡ twoBytesAt (now (s .entry)) at ⌝ }
 {
-    wide(s[at]) + 256 * wide(s[at + 1])
+    widened(s[at]) + 256 * widened(s[at + 1])
 }
 
 // What taking a vector comes to: its shape, or a fault and its place.
@@ -36,7 +36,7 @@ pub enum Taken {
 pub fn take_vector(labels: &[u8], readings: &[u64], at: &mut [usize; 513]) -> Taken
     ensures { λ r. ⌜ TakenInto (now (labels .entry)) (now (readings .entry)) (now (at .entry)) r (now (at .exit)) ⌝ }
 {
-    if labels.len() < 6 {
+    if labels.len() < Operator::SIZES_LENGTH {
         return Taken::Cut(0);
     }
     let n = two_bytes_at(labels, 0);
@@ -48,10 +48,10 @@ pub fn take_vector(labels: &[u8], readings: &[u64], at: &mut [usize; 513]) -> Ta
     if Operator::MAX_POINTS < p {
         return Taken::Cut(0);
     }
-    if labels.len() - 6 != size {
+    if labels.len() - Operator::SIZES_LENGTH != size {
         return Taken::Cut(0);
     }
-    match record_walk::walk_records(&labels[6..], n, at) {
+    match record_walk::walk_records(&labels[Operator::SIZES_LENGTH..], n, at) {
         Walked::Whole => {
             if readings.len() != n * p {
                 return Taken::Readings;

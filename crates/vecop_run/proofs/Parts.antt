@@ -82,5 +82,7 @@ module _ (s : List ℕ) (x : Parts) (hx : PartsFound s x) (d : List ℕ) where
     pub right-short : length (take (length s - (l + 4)) (drop (l + 4) s)) ≤ maxInput
     right-short = rw right-all (omega (arith, length-drop (l + 4) s, short))
 
-    pub parts-put : (d′ : List ℕ) (k : ℕ) → Put d 0 (printed (called (take (q - 4) (drop 4 s)) (take (l - (q + 4)) (drop (q + 4) s)) (take (length s - (l + 4)) (drop (l + 4) s)))) d′ k → Put d 0 (vecopText s) d′ k
+    pub parts-put : (d′ : List ℕ) (k : ℕ) → Put d 0
+        (printed (called (take (q - 4) (drop 4 s)) (take (l - (q + 4)) (drop (q + 4) s)) (take (length s - (l + 4)) (drop (l + 4) s)))) d′ k
+        → Put d 0 (vecopText s) d′ k
     parts-put d′ k p = rw (here .parts) (rw right-all at p)

@@ -11,9 +11,9 @@ use Rattle.semantics.specs.Call as Call
 use Rattle.semantics.specs.Call.{refused, answered, call}
 use Rattle.theorems.specs.Valid.{answers-are-valid}
 use Rattle.answers.specs.Outcomes.{told, wanted, labelsAfter, readingsAfter, startingWith, Ran}
-use Rattle.answers.specs.Outcomes as O
+use Rattle.answers.specs.declared.Told.{Told}
 use Rattle.answers.specs.declared.Outcome.{Outcome}
-use Rattle.keyed_sides.specs.Lent.{bytes-of, readings-of}
+use Rattle.keyed_sides.specs.TakenSides.{bytes-of, readings-of}
 use Rattle.writing.specs.Written.{Put}
 use Rattle.vecop_run.specs.outcome_text.Text.{printed}
 use Rattle.vecop_run.specs.outcome_text.Told.{toldText, Within}
@@ -21,7 +21,7 @@ use Rattle.vecop_run.specs.Vecop.{ran, maxText}
 use Rattle.vecop_run.proofs.Sizes.{answer-size, refusal-size}
 
 -- what is told of a call, over output parts that hold its answer
-pub record Printable (want : Call.Outcome) (w : O.Told) (x y : List ℕ) : Type 0 where
+pub record Printable (want : Call.Outcome) (w : Told) (x y : List ℕ) : Type 0 where
   pub within : Within w x y
   pub text : toldText w x y ≡ printed want
   pub short : length (printed want) ≤ maxText
@@ -36,7 +36,8 @@ starts x d r e = rw e (take-append-seam x (drop (length x) d))
 starts-within : (x d r : List ℕ) → r ≡ startingWith x d → length x ≤ length r
 starts-within x d r e = omega (arith, ap length e, length-append x (drop (length x) d))
 
-printable : (want : Call.Outcome) (w : O.Told) (x₀ y₀ x y : List ℕ) → Borne want → w ≡ wanted want → x ≡ labelsAfter want x₀ → y ≡ readingsAfter want y₀ → length x ≡ 65535 → length y ≡ 8192 → Printable want w x y
+printable : (want : Call.Outcome) (w : Told) (x₀ y₀ x y : List ℕ) → Borne want → w ≡ wanted want → x ≡ labelsAfter want x₀
+    → y ≡ readingsAfter want y₀ → length x ≡ 65535 → length y ≡ 8192 → Printable want w x y
 printable (refused k a b) w x₀ y₀ x y v e hx hy lx ly =
     rw e (record { within = record { lies = tt }; text = refl; short = omega (arith, refusal-size k a b) })
 printable (answered n p labels readings) w x₀ y₀ x y v e hx hy lx ly =
@@ -51,7 +52,8 @@ printable (answered n p labels readings) w x₀ y₀ x y v e hx hy lx ly =
     })
 
 module _ (q ll lr rl rr x₀ y₀ x y : List ℕ) (r : Outcome) (hr : Ran (call q ll lr rl rr (length x₀) (length y₀)) x₀ y₀ x y r)
-    (bl : (j : ℕ) → Fits w8 (getD ll j 0)) (wl : (j : ℕ) → Fits w64 (getD lr j 0)) (br : (j : ℕ) → Fits w8 (getD rl j 0)) (wr : (j : ℕ) → Fits w64 (getD rr j 0))
+    (bl : (j : ℕ) → Fits w8 (getD ll j 0)) (wl : (j : ℕ) → Fits w64 (getD lr j 0)) (br : (j : ℕ) → Fits w8 (getD rl j 0))
+    (wr : (j : ℕ) → Fits w64 (getD rr j 0))
     (hx : length x₀ ≡ 65535) (hy : length y₀ ≡ 8192) (sx : length x ≡ length x₀) (sy : length y ≡ length y₀) where
   borne : Borne (ran q ll lr rl rr)
   borne =

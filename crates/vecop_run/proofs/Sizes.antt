@@ -28,7 +28,14 @@ field-size (b ∷ s) = omega (arith, length-append (escaped b) (escapedAll s), e
 tag-size : (t : Tag) → length (tagText t) ≤ 3 * (length (t .key) + length (t .value)) + 3
 unfolding tagText
 tag-size t =
-    omega (arith, length-append (escapedAll (t .key)) ((61 ∷ 34 ∷ []) ++ (escapedAll (t .value) ++ (34 ∷ []))), length-append (escapedAll (t .value)) (34 ∷ []), field-size (t .key), field-size (t .value))
+    omega (
+      arith,
+      length-append (escapedAll (t .key)) ((61 ∷ 34 ∷ []) ++ (escapedAll (t .value) ++ (34 ∷ []))),
+      length-append (escapedAll (t .value))
+          (34 ∷ []),
+      field-size (t .key),
+      field-size (t .value),
+    )
 
 encoded-size : (t : Tag) (ts : List Tag) → length (encodeTags (t ∷ ts)) ≡ 2 + (length (t .key) + length (t .value)) + length (encodeTags ts)
 unfolding encodeTags
@@ -48,7 +55,15 @@ tags-size (t ∷ ts) = omega (arith, length-append (tagText t) (moreTags ts), ta
 labels-size : (l : Labels) → length (labelsText l) + 1 ≤ 3 * length (encode l)
 unfolding labelsText bracedTags encode
 labels-size l =
-    omega (arith, length-append (escapedAll (l .name)) ((123 ∷ []) ++ (tagsText (l .tags) ++ (125 ∷ []))), length-append (tagsText (l .tags)) (125 ∷ []), field-size (l .name), tags-size (l .tags), length-append (encodeField (l .name)) (length (l .tags) ∷ encodeTags (l .tags)))
+    omega (
+      arith,
+      length-append (escapedAll (l .name)) ((123 ∷ []) ++ (tagsText (l .tags) ++ (125 ∷ []))),
+      length-append (tagsText (l .tags))
+          (125 ∷ []),
+      field-size (l .name),
+      tags-size (l .tags),
+      length-append (encodeField (l .name)) (length (l .tags) ∷ encodeTags (l .tags)),
+    )
 
 reading-size : (x : ℕ) → length (readingText x) ≡ 17
 unfolding readingText
@@ -71,10 +86,20 @@ unfolding linesText
 lines-size zero p x y = omega arith
 lines-size (suc n) p x y = go (decode x) refl (λ rest. lines-size n p rest (drop p y))
   where
-    go : (d : Decoded) → decode x ≡ d → ((rest : List ℕ) → length (linesText n p rest (drop p y)) ≤ 3 * length rest + 17 * length (drop p y)) → length (onRecord d (λ l rest. lineText l (take p y) ++ linesText n p rest (drop p y))) ≤ 3 * length x + 17 * length y
+    go : (d : Decoded) → decode x ≡ d → ((rest : List ℕ) → length (linesText n p rest (drop p y)) ≤ 3 * length rest + 17 * length (drop p y))
+        → length (onRecord d (λ l rest. lineText l (take p y) ++ linesText n p rest (drop p y))) ≤ 3 * length x + 17 * length y
     go (decoded l rest) e h =
         let b : x ≡ encode l ++ rest = decode-is x l rest e .bytes in
-        omega (arith, ap length b, length-append (encode l) rest, length-append (lineText l (take p y)) (linesText n p rest (drop p y)), line-size l (take p y), h rest, parted p y)
+        omega (
+          arith,
+          ap length b,
+          length-append (encode l) rest,
+          length-append (lineText l (take p y)) (linesText n p rest (drop p y)),
+          line-size l
+              (take p y),
+          h rest,
+          parted p y,
+        )
     go cut e h = omega arith
     go badKey e h = omega arith
 

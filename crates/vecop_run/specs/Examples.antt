@@ -52,7 +52,8 @@ unfolding texts part over fed waste input
 waste-rate = refl
 
 -- a byte after the third part, a part cut short, a length cut short, nothing at all
-unreadables : map vecopText ((input ++ (0 ∷ [])) ∷ (part over ++ (part fed ++ (9 ∷ 0 ∷ 0 ∷ 0 ∷ 1 ∷ []))) ∷ (part over ++ (part fed ++ (0 ∷ 0 ∷ 0 ∷ []))) ∷ [] ∷ [])
+unreadables : map vecopText
+    ((input ++ (0 ∷ [])) ∷ (part over ++ (part fed ++ (9 ∷ 0 ∷ 0 ∷ 0 ∷ 1 ∷ []))) ∷ (part over ++ (part fed ++ (0 ∷ 0 ∷ 0 ∷ []))) ∷ [] ∷ [])
     ≡ unreadableText ∷ unreadableText ∷ unreadableText ∷ unreadableText ∷ []
 unfolding texts part over fed waste input
 unreadables = refl

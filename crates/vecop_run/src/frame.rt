@@ -1,9 +1,11 @@
 // The input of the program: its three parts, and of a vector's part the labels and the readings. Parts are places, and nothing is copied
 // but the readings, which become numbers.
 use fields::Place;
+use operator::Operator;
 ghost use mathlib.Core.Path.{_≡_};
 ghost use Prim.Native.Nat.{_+_, _*_, _≤_, _<_};
 ghost use lib.ListN.{length};
+ghost use Rattle.model.specs.Limits.{sizesLength};
 ghost use Rattle.model.specs.Vector.{twoBytesAt};
 ghost use Rattle.writing.specs.Written.{Put};
 ghost use Rattle.vecop_run.specs.frame.Frames.{fourBytesAt, eightBytesAt, maxInput};
@@ -100,11 +102,11 @@ pub(crate) fn parts_of(s: &[u8]) -> Parts
 pub(crate) fn labels_end(v: &[u8]) -> usize
     ensures { λ r. ⌜ Split (now (v .entry)) r ⌝ }
 {
-    if v.len() < 6 {
+    if v.len() < Operator::SIZES_LENGTH {
         return v.len();
     }
     let size = two_at(v, 4) as usize;
-    let end = 6 + size;
+    let end = Operator::SIZES_LENGTH + size;
     if end < v.len() { end } else { v.len() }
 }
 
@@ -126,7 +128,7 @@ fn read_words(s: &[u8], k: usize, words: &mut [u64]) -> usize
 
 // n times p.
 fn reading_count(v: &[u8]) -> usize
-    requires { ⌜ 6 ≤ length (now v) ⌝ }
+    requires { ⌜ sizesLength ≤ length (now v) ⌝ }
     ensures { λ r. ⌜ Read (readingCount (now (v .entry))) 4294967296 r ⌝ }
 {
     let n = two_at(v, 0) as usize;
@@ -140,7 +142,7 @@ pub(crate) fn read_readings(v: &[u8], words: &mut [u64]) -> usize
     requires { ⌜ 8192 ≤ length (now words) ⌝ }
     ensures { λ r. ⌜ Put (now (words .entry)) 0 (readingsIn (now (v .entry))) (now (words .exit)) r ⌝ }
 {
-    if v.len() < 6 {
+    if v.len() < Operator::SIZES_LENGTH {
         return 0;
     }
     let k = reading_count(v);

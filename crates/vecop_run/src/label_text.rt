@@ -10,7 +10,8 @@ ghost use lib.ListN.{length, drop};
 ghost use Rattle.writing.specs.Written.{Put};
 ghost use Rattle.record_tags.specs.Lenient.{tagsUpTo, labelsOf};
 ghost use Rattle.vecop_run.specs.label_text.Numerals.{digit, digits, hexadecimal};
-ghost use Rattle.vecop_run.specs.label_text.LabelText.{isSpecial, isPlain, escaped, escapedAll, tagOf, tagText, moreTags, tagsText, bracedTags, labelsText};
+ghost use Rattle.vecop_run.specs.label_text.LabelText.{isSpecial, isPlain, escaped, escapedAll, tagOf, tagText, moreTags, tagsText};
+ghost use Rattle.vecop_run.specs.label_text.LabelText.{bracedTags, labelsText};
 
 fn digit_of(d: u64) -> u8
     requires { ⌜ d < 16 ⌝ }

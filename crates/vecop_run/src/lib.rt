@@ -20,9 +20,9 @@ pub const MAX_TEXT: usize = 335918;
 fn put_run<'a>(
     query: &[u8],
     left_labels: &'a [u8],
-    left: &[u64],
+    left: &'a [u64],
     right_labels: &'a [u8],
-    right: &[u64],
+    right: &'a [u64],
     labels: &mut [u8],
     readings: &mut [u64],
     text: &mut [u8],
@@ -30,7 +30,12 @@ fn put_run<'a>(
     requires { ⌜ length (now labels) ≡ 65535 ⌝ }
     requires { ⌜ length (now readings) ≡ 8192 ⌝ }
     requires { ⌜ maxText ≤ length (now text) ⌝ }
-    ensures { λ r. ⌜ Put (now (text .entry)) 0 (printed (ran (now (query .entry)) (now («left_labels» .entry)) (now (left .entry)) (now («right_labels» .entry)) (now (right .entry)))) (now (text .exit)) r ⌝ }
+    ensures { λ r. ⌜
+        Put (now (text .entry)) 0
+        (printed (ran (now (query .entry)) (now («left_labels» .entry)) (now (left .entry)) (now («right_labels» .entry))
+        (now (right .entry))))
+        (now (text .exit)) r
+        ⌝ }
 {
     let x = binop_vector_vector::exec_binop(
         query,
@@ -48,9 +53,9 @@ fn put_run<'a>(
 fn put_split<'a>(
     query: &[u8],
     left: &'a [u8],
-    left_readings: &[u64],
+    left_readings: &'a [u64],
     right: &'a [u8],
-    right_readings: &[u64],
+    right_readings: &'a [u64],
     labels: &mut [u8],
     readings: &mut [u64],
     text: &mut [u8],
@@ -60,7 +65,10 @@ fn put_split<'a>(
     requires { ⌜ length (now labels) ≡ 65535 ⌝ }
     requires { ⌜ length (now readings) ≡ 8192 ⌝ }
     requires { ⌜ maxText ≤ length (now text) ⌝ }
-    ensures { λ r. ⌜ Put (now (text .entry)) 0 (printed (called (now (query .entry)) (now (left .entry)) (now (right .entry)))) (now (text .exit)) r ⌝ }
+    ensures { λ r. ⌜
+        Put (now (text .entry)) 0 (printed (called (now (query .entry)) (now (left .entry)) (now (right .entry))))
+        (now (text .exit)) r
+        ⌝ }
 {
     let a = frame::labels_end(left);
     let b = frame::labels_end(right);
@@ -80,7 +88,7 @@ fn put_split<'a>(
 fn put_right<'a>(
     query: &[u8],
     left: &'a [u8],
-    left_readings: &[u64],
+    left_readings: &'a [u64],
     right: &'a [u8],
     words: &mut [u64],
     labels: &mut [u8],
@@ -93,7 +101,10 @@ fn put_right<'a>(
     requires { ⌜ length (now labels) ≡ 65535 ⌝ }
     requires { ⌜ length (now readings) ≡ 8192 ⌝ }
     requires { ⌜ maxText ≤ length (now text) ⌝ }
-    ensures { λ r. ⌜ Put (now (text .entry)) 0 (printed (called (now (query .entry)) (now (left .entry)) (now (right .entry)))) (now (text .exit)) r ⌝ }
+    ensures { λ r. ⌜
+        Put (now (text .entry)) 0 (printed (called (now (query .entry)) (now (left .entry)) (now (right .entry))))
+        (now (text .exit)) r
+        ⌝ }
 {
     let n = frame::read_readings(right, words);
     put_split(
@@ -126,7 +137,10 @@ fn put_sides<'a>(
     requires { ⌜ length (now labels) ≡ 65535 ⌝ }
     requires { ⌜ length (now readings) ≡ 8192 ⌝ }
     requires { ⌜ maxText ≤ length (now text) ⌝ }
-    ensures { λ r. ⌜ Put (now (text .entry)) 0 (printed (called (now (query .entry)) (now (left .entry)) (now (right .entry)))) (now (text .exit)) r ⌝ }
+    ensures { λ r. ⌜
+        Put (now (text .entry)) 0 (printed (called (now (query .entry)) (now (left .entry)) (now (right .entry))))
+        (now (text .exit)) r
+        ⌝ }
 {
     let n = frame::read_readings(left, left_words);
     put_right(
@@ -146,7 +160,10 @@ fn put_called<'a>(query: &[u8], left: &'a [u8], right: &'a [u8], text: &mut [u8]
     requires { ⌜ length (now left) ≤ maxInput ⌝ }
     requires { ⌜ length (now right) ≤ maxInput ⌝ }
     requires { ⌜ maxText ≤ length (now text) ⌝ }
-    ensures { λ r. ⌜ Put (now (text .entry)) 0 (printed (called (now (query .entry)) (now (left .entry)) (now (right .entry)))) (now (text .exit)) r ⌝ }
+    ensures { λ r. ⌜
+        Put (now (text .entry)) 0 (printed (called (now (query .entry)) (now (left .entry)) (now (right .entry))))
+        (now (text .exit)) r
+        ⌝ }
 {
     let mut left_words = [0u64; 8192];
     let mut right_words = [0u64; 8192];

@@ -2,6 +2,7 @@
 use crate::label_text::put_digits;
 use crate::label_text::put_labels;
 use answers::Outcome;
+use answers::Told;
 use label_records::Record;
 use writing::put_byte;
 use writing::put_bytes;
@@ -13,7 +14,7 @@ ghost use Rattle.record_tags.specs.Lenient.{labelsOf};
 ghost use Rattle.answers.specs.Outcomes.{told};
 ghost use Rattle.vecop_run.specs.label_text.Numerals.{digitCount, decimal};
 ghost use Rattle.vecop_run.specs.outcome_text.Text.{readingText, rowText, lineText, linesText, twoNumbers, answerText, refusalText, unreadableText};
-ghost use Rattle.vecop_run.specs.outcome_text.Told.{toldAs, toldText, Within};
+ghost use Rattle.vecop_run.specs.outcome_text.Told.{toldText, Within};
 
 fn digit_count(n: usize) -> usize
     ensures { λ r. ⌜ r ≡ digitCount 20 n ⌝ }
@@ -130,63 +131,13 @@ fn put_refusal(out: &mut [u8], number: usize, a: usize, b: usize) -> usize
     put_two(out, q, a, b)
 }
 
-// An outcome with 01's numbers.
-enum Told {
-    Answer {
-        series: usize,
-        points: usize,
-        bytes: usize,
-    },
-    Refusal {
-        number: usize,
-        first: usize,
-        second: usize,
-    },
-}
-
-fn told_as(x: Outcome) -> Told
-    ensures { λ r. ⌜ r ≡ toldAs (told x) ⌝ }
-{
-    match x {
-        Outcome::Answer {
-            series,
-            points,
-            bytes,
-        } => Told::Answer {
-            series,
-            points,
-            bytes,
-        },
-        Outcome::BadOperator => refusal(1, 0, 0),
-        Outcome::Malformed => refusal(2, 0, 0),
-        Outcome::Cut { side, place } => refusal(3, side, place),
-        Outcome::BadKey { side, place } => refusal(4, side, place),
-        Outcome::Readings { side } => refusal(5, side, 0),
-        Outcome::Unequal => refusal(6, 0, 0),
-        Outcome::LeftTwice { kept, failed } => refusal(7, kept, failed),
-        Outcome::RightTwice { kept, failed } => refusal(8, kept, failed),
-        Outcome::TooLarge => refusal(9, 0, 0),
-        Outcome::TooLong => refusal(10, 0, 0),
-    }
-}
-
-fn refusal(number: usize, first: usize, second: usize) -> Told
-    ensures { λ r. ⌜ r ≡ Told.Refusal number first second ⌝ }
-{
-    Told::Refusal {
-        number,
-        first,
-        second,
-    }
-}
-
 // Writes the text of an outcome, whose answer stands at the start of the output parts, and gives its length.
 pub(crate) fn put_outcome(out: &mut [u8], x: Outcome, labels: &[u8], readings: &[u64]) -> usize
     requires { ⌜ Within (told x) (now labels) (now readings) ⌝ }
     requires { ⌜ length (toldText (told x) (now labels) (now readings)) ≤ length (now out) ⌝ }
     ensures { λ r. ⌜ Put (now (out .entry)) 0 (toldText (told x) (now (labels .entry)) (now (readings .entry))) (now (out .exit)) r ⌝ }
 {
-    match told_as(x) {
+    match answers::told_as(x) {
         Told::Answer {
             series,
             points,

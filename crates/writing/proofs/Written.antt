@@ -28,7 +28,8 @@ module _ (d : List ℕ) (at : ℕ) where
       let t : take (at + length v) (take at d ++ (v ++ X)) ≡ take at d ++ v = rw join (take-at (take at d ++ v) X (at + length v) head) in
       let u : drop (at + length v) (take at d ++ (v ++ X)) ≡ X = rw join (drop-at (take at d ++ v) X (at + length v) head) in
       let e : drop (at + length v + length w) (take at d ++ (v ++ X)) ≡ drop (at + length (v ++ w)) d =
-      sym (drop-drop (length w) (at + length v) (take at d ++ (v ++ X))) ∙ ap (drop (length w)) u ∙ drop-drop (length w) (at + length v) d ∙ ap (λ (n : ℕ). drop n d) k in
+      sym (drop-drop (length w) (at + length v) (take at d ++ (v ++ X))) ∙ ap (drop (length w)) u ∙ drop-drop (length w) (at + length v) d
+      ∙ ap (λ (n : ℕ). drop n d) k in
       ap (λ (l : List ℕ). l ++ (w ++ drop (at + length v + length w) (take at d ++ (v ++ X)))) t
       ∙ ap (λ (l : List ℕ). (take at d ++ v) ++ (w ++ l)) e
       ∙ append-assoc (take at d) v (w ++ drop (at + length (v ++ w)) d)
@@ -51,7 +52,8 @@ module _ (d : List ℕ) (at : ℕ) where
       written-none-at x g = unfold written in rw add-zero (take-append-drop (at + 1) x)
 
 -- the loop of `put_bytes`: want is what is to stand there at the end
-module _ (want d₀ d src : List ℕ) (at o j : ℕ) (inv : want ≡ written d o (drop j src)) (ho : o ≡ at + j) (hd : length d ≡ length d₀) (room : at + length src ≤ length d₀) where
+module _ (want d₀ d src : List ℕ) (at o j : ℕ) (inv : want ≡ written d o (drop j src)) (ho : o ≡ at + j) (hd : length d ≡ length d₀)
+    (room : at + length src ≤ length d₀) where
   pub put-turn : j < length src → want ≡ written (set d o (getD src j 0)) (o + 1) (drop (j + 1) src)
   put-turn h =
       inv ∙ ap (written d o) (drop-cons src j 0 h)

@@ -1,67 +1,72 @@
-use borrow.Author.Needs.{needs}
+-- `run` meets its contract. Assumes nothing.
+use mathlib.Core.Path.{refl}
 use Rattle.model.specs.Laws.Lists.{front-long}
-use Rattle.keyed_sides.proofs.Numbering.{front-count, lent-some, lent-few}
+use Rattle.binop_vector_vector.proofs.Stages.{side-few, run-held, left-within, right-within, left-front, right-front, sides-numbered}
+use borrow.Author.Needs.{needs}
 use Rattle.binop_vector_vector.proofs.run.Statement.{statement}
 use Rattle.binop_vector_vector.proofs.run.Tie as tie
-use Rattle.binop_vector_vector.proofs.run.Reads as reads
-use Rattle.binop_vector_vector.proofs.run.Lts as lts
-use Rattle.binop_vector_vector.proofs.run_numbered.Reads as run-numbered-reads
 
--- src/lib.rt:262:13
-sub-n : tie.Need-sub-n
-sub-n c = search needs
+number-kept-requires : tie.Need-number-kept-requires
+number-kept-requires c κs =
+    let pre = c .before .before .before .before .before .before .before .before .pre in
+    run-held _ _ _ _ _ _ _ _ _ (pre .1 .0) (pre .1 .1) refl refl
 
--- src/lib.rt:263:13
-sub-m : tie.Need-sub-m
-sub-m c = search needs
+array-share-prefix-left-keys : tie.Need-array-share-prefix-left-keys
+array-share-prefix-left-keys c =
+    let numbered = c .before .before in
+    let start = numbered .before .before .before .before .before .before .before .before .before in
+    left-within (start .args .query .now) (start .args .q) _ (run-held _ _ _ _ _ _ _ _ _ (start .pre .1 .0) (start .pre .1 .1) refl refl)
+    _ _ (numbered .number-kept .ensures) _
 
--- src/lib.rt:270:9
-array-borrow-prefix-left-keys : tie.Need-array-borrow-prefix-left-keys
-array-borrow-prefix-left-keys c = search needs
+slice-aggregate-run-keyed : tie.Need-slice-aggregate-run-keyed
+slice-aggregate-run-keyed c =
+    let numbered = c .before .before .before in
+    let start = numbered .before .before .before .before .before .before .before .before .before in
+    left-front (start .args .query .now) (start .args .q) _ (run-held _ _ _ _ _ _ _ _ _ (start .pre .1 .0) (start .pre .1 .1) refl refl)
+    _ _ (numbered .number-kept .ensures) _
 
--- src/lib.rt:270:9
-slice-aggregate-run-numbered : tie.Need-slice-aggregate-run-numbered
-slice-aggregate-run-numbered c = front-long _ _ (search lent-few)
+array-share-prefix-right-keys : tie.Need-array-share-prefix-right-keys
+array-share-prefix-right-keys c =
+    let numbered = c .before .before .before in
+    let start = numbered .before .before .before .before .before .before .before .before .before in
+    right-within (start .args .query .now) (start .args .q) _ (run-held _ _ _ _ _ _ _ _ _ (start .pre .1 .0) (start .pre .1 .1) refl refl)
+    _ _ (numbered .number-kept .ensures) _
 
--- src/lib.rt:274:9
-array-borrow-prefix-right-keys : tie.Need-array-borrow-prefix-right-keys
-array-borrow-prefix-right-keys c = search needs
+slice-aggregate-run-keyed-2 : tie.Need-slice-aggregate-run-keyed-2
+slice-aggregate-run-keyed-2 c =
+    let numbered = c .before .before .before .before in
+    let start = numbered .before .before .before .before .before .before .before .before .before in
+    right-front (start .args .query .now) (start .args .q) _ (run-held _ _ _ _ _ _ _ _ _ (start .pre .1 .0) (start .pre .1 .1) refl refl)
+    _ _ (numbered .number-kept .ensures) _
 
--- src/lib.rt:274:9
-slice-aggregate-run-numbered-2 : tie.Need-slice-aggregate-run-numbered-2
-slice-aggregate-run-numbered-2 c = front-long _ _ (search lent-few)
-
--- src/lib.rt:264:5
-run-numbered-requires : tie.Need-run-numbered-requires
-run-numbered-requires c κs =
-    let start = c .before .before .before .before .before .before .before .before .before .before .before .before .before in
-    let lefts = start .pre .1 .0 in
-    let rights = start .pre .1 .1 in
-    (search needs, (search needs, (search needs, (front-count (start .args .left-at .now) _ (lent-some _ _ _ _ lefts) (lent-few _ _ _ _ lefts), front-count (start .args .right-at .now) _ (lent-some _ _ _ _ rights) (lent-few _ _ _ _ rights)))))
-
--- src/lib.rt:242:1
-same-length : tie.Need-same-length
-same-length c = search needs
-
--- src/lib.rt:242:1
-same-length-2 : tie.Need-same-length-2
-same-length-2 c = search needs
-
--- src/lib.rt:242:1
-returns : tie.Need-returns
-returns c = search needs
+run-keyed-requires : tie.Need-run-keyed-requires
+run-keyed-requires c κs =
+    let numbered = c .before .before .before .before .before .before in
+    let start = numbered .before .before .before .before .before .before .before .before .before in (
+      start .pre .0,
+      sides-numbered (start .args .query .now) (start .args .q) _ (run-held _ _ _ _ _ _ _ _ _ (start .pre .1 .0) (start .pre .1 .1) refl refl)
+          _ _ (numbered .number-kept .ensures) _ _,
+    )
 
 pub run-spec : {M : Type 1} → statement M
 run-spec =
     tie.close
     (tie.spec
-    sub-n
-    sub-m
-    array-borrow-prefix-left-keys
-    slice-aggregate-run-numbered
-    array-borrow-prefix-right-keys
-    slice-aggregate-run-numbered-2
-    run-numbered-requires
-    same-length
-    same-length-2
-    returns)
+    (λ c. search needs)
+    (λ c. search needs)
+    (λ c. search needs)
+    (λ c. search needs)
+    (λ c. search needs)
+    (λ c. search side-few)
+    (λ c. front-long _ _ (search side-few))
+    (λ c. search side-few)
+    (λ c. front-long _ _ (search side-few))
+    number-kept-requires
+    array-share-prefix-left-keys
+    slice-aggregate-run-keyed
+    array-share-prefix-right-keys
+    slice-aggregate-run-keyed-2
+    run-keyed-requires
+    (λ c. search needs)
+    (λ c. search needs)
+    (λ c. search needs))

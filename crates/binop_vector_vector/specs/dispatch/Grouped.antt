@@ -1,31 +1,31 @@
 -- A join as it is run: what is done with each pair of series, and what that comes to. Assumes nothing.
 use Prim.Native.Nat.{ℕ}
-use mathlib.Core.Bool.{Bool}
-use mathlib.Core.List.{List, map}
+use mathlib.Core.Bool.{Bool, cond}
 use Rattle.model.specs.Edits.{Names}
 use Rattle.model.specs.Query as Model
 use Rattle.model.specs.Query.{resets}
 use Rattle.semantics.specs.Call.{Outcome}
-use Rattle.plan.specs.Conclude.{conclude}
-use Rattle.plan.specs.Joins.{joinClash, joinRowsFrom, joinSeries}
+use Rattle.plan.specs.Joins as Joins
+use Rattle.plan.specs.Joins.{joinOutcome}
 use Rattle.query.specs.declared.Query.{Query}
+use Rattle.query.specs.allowance.Allowances.{allowedBy}
 use Rattle.set_tags.specs.naming.Namings.{namingOf}
-use Rattle.side_parts.specs.Sides.{labelsIn}
+use Rattle.side_parts.specs.Lent.{Sides}
 use Rattle.joins.specs.declared.join_rows.Work.{Work}
-use Rattle.joins.specs.join_rows.Codes.{sideOf}
-use Rattle.joins.specs.join_rows.Sides.{sidesOf}
 
-abbrev pub workOf : Names → Names → Bool → Query → Work
-workOf join skip left q = record {
+abbrev pub askedWork : Names → Names → Bool → Query → Work
+askedWork join skip left q = record {
   operator = q .operator;
   bool = q .bool;
   left = left;
   naming = namingOf join skip (resets (q .operator) (q .«keep_names») (q .bool));
+  allowance = allowedBy q;
 }
 
--- the first clash of a join, or its answer series as they fit; the many side first
-abbrev pub joinedOver : Model.Query → Bool → ℕ → List ℕ → List ℕ → List ℕ → List ℕ → List ℕ → List ℕ → List ℕ → List ℕ → ℕ → ℕ → Outcome
-joinedOver q left p manyArray manyAt manyKeys manyRows array at keys rows labelRoom room =
-    conclude labelRoom room (record { points = p })
-    (joinClash q (sideOf left) (sidesOf p manyArray manyAt manyKeys manyRows array at keys rows) manyKeys (labelsIn manyArray manyAt))
-    (map (joinSeries q (sideOf left) (sidesOf p manyArray manyAt manyKeys manyRows array at keys rows)) (joinRowsFrom q (sidesOf p manyArray manyAt manyKeys manyRows array at keys rows) 0 manyKeys (labelsIn manyArray manyAt)))
+-- 01: many side left for group_left, right for group_right
+abbrev pub manyIf : Bool → Model.Side
+manyIf left = cond left Model.left Model.right
+
+-- a join's outcome; the many side first
+abbrev pub joinedOver : Model.Query → Bool → Sides → ℕ → ℕ → Outcome
+joinedOver q left s labelRoom room = joinOutcome (Joins.workOf q (manyIf left)) (manyIf left) labelRoom room s

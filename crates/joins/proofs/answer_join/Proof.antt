@@ -1,11 +1,11 @@
 -- `answer_join` meets its contract. Assumes nothing.
 use borrow.Author.Needs.{needs}
-use Rattle.joins.proofs.Answers.{asked-records, room-made, answered-large, answered-long, answered-put}
+use Rattle.joins.proofs.Answers.{held-records, room-made, answered-large, answered-long, answered-put}
 use Rattle.joins.proofs.answer_join.Statement.{statement}
 use Rattle.joins.proofs.answer_join.Tie as tie
 
 tally-join-requires : tie.Need-tally-join-requires
-tally-join-requires c κs = search asked-records
+tally-join-requires c κs = search held-records
 
 room-for-requires : tie.Need-room-for-requires
 room-for-requires c κs = search needs
@@ -40,12 +40,12 @@ same-length-2 c = search needs
 
 returns-3 : tie.Need-returns-3
 returns-3 c =
-    let put = c .before .before .before .before .put-answer .ensures in
-    let fits = c .before .before .before .before .before .before .before .enum-told3 .given .1 in
-    let asked = c .before .before .before .before .before .before .before .before .before .room-for .ensures in
-    let tally = c .before .before .before .before .before .before .before .before .before .before .tally-join .ensures in
-    let pre = c .before .before .before .before .before .before .before .before .before .before .before .before .before .before .before .before .before .before .before .before .before .before .before .before .before .pre in
-    answered-put _ _ _ _ _ _ _ _ _ _ _ _ _ _ _ _ pre _ tally _ asked fits _ _ _ put
+    let put = c .before .before .before .before in
+    let told = put .before .before .before in
+    let room = told .before .before in
+    let tally = room .before in
+    answered-put _ _ _ _ _ _ _ _ _ _ (tally .before .before .before .before .before .pre) _ (tally .tally-join .ensures) _ (room .room-for .ensures)
+    (told .enum-told3 .given .1) _ _ _ (put .put-answer .ensures)
 
 pub answer-join-spec : {M : Type 1} → statement M
 answer-join-spec =

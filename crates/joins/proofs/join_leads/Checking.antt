@@ -1,6 +1,6 @@
 -- `try_lead`, `check_leads` and `list_leads`. Assumes nothing.
 use Prim.Native.Nat.{ℕ, suc, _+_, _*_, _≤_, _<_}
-use mathlib.Core.Path.{_≡_, refl, sym, _∙_}
+use mathlib.Core.Path.{_≡_, refl, sym, ap, _∙_}
 use mathlib.Core.Bool.{true, false, cond}
 use mathlib.Core.Option.{none}
 use mathlib.Core.List.{List, [], _∷_}
@@ -13,22 +13,25 @@ use lib.ListN.{length, getD, take, drop, set, length-drop, drop-of-length-le}
 use lib.Seq.{drop-cons, getD-drop, length-take-le}
 use borrow.Author.Tests.{eq-eqb, ne-eqb}
 use Rattle.model.specs.Query.{Side}
-use Rattle.key_places.specs.Places.{lastOf, last-greatest}
+use Rattle.plan.specs.Keys.{lastOf}
+use Rattle.plan.specs.Laws.Ends.{last-greatest}
 use Rattle.plan.specs.Conclude.{orElse}
-use Rattle.plan.specs.Merging.{rowAt, RowMerge, row, failedAt, mergeGroup, mergeLead, clash}
+use Rattle.plan.specs.Merging.{RowMerge, row, failedAt, mergeGroup, mergeLead, clash}
+use Rattle.side_parts.specs.Sides.{rowAt}
 use Rattle.plan.specs.Joins.{leadsClash, leadRows, rowCode}
 use Rattle.merging.specs.declared.Merges.{Merges}
 use Rattle.merging.specs.declared.Merges.the-variants as M
 use Rattle.merging.specs.Groups.{mergesTo, MergedGroup}
-use Rattle.noting.specs.Places.{NotedAll}
-use Rattle.noting.proofs.Noting.{Noting, noting-starts, noting-turn, noting-length, noting-ends}
+use Rattle.index_lists.specs.Places.{NotedAll}
+use Rattle.index_lists.proofs.Noting.{Noting, noting-starts, noting-turn, noting-length, noting-ends}
 use Rattle.joins.specs.declared.join_leads.Checked.the-variants as C
 use Rattle.joins.specs.join_leads.Checks.{TriedFrom, TriedAs, clashAs, ClashOf, CodesFit}
 
 -- `try_lead`
 
 module _ (allowance p : ℕ) (rows : List ℕ) where
-  pub none-merge : (g : ℕ) (groups : List ℕ) (i : ℕ) (d : List ℕ) → ((j : ℕ) → j < length groups → eqb (getD groups j 0) g ≡ false) → mergeGroup allowance p rows g i groups d ≡ row d
+  pub none-merge : (g : ℕ) (groups : List ℕ) (i : ℕ) (d : List ℕ) → ((j : ℕ) → j < length groups → eqb (getD groups j 0) g ≡ false)
+      → mergeGroup allowance p rows g i groups d ≡ row d
   unfolding mergeGroup
   none-merge g [] i d h = refl
   none-merge g (x ∷ groups) i d h = rw (h 0 (omega arith)) (none-merge g groups (suc i) d (λ j w. h (suc j) (omega (arith, w))))
@@ -38,7 +41,7 @@ module _ (allowance p : ℕ) (rows : List ℕ) where
   unfolding mergeLead
   lead-alone leads o h =
       none-merge o (drop (suc o) leads) (suc o) (rowAt p rows o)
-      (λ j w. rw getD-drop (last-greatest (λ x. eqb x o) leads (suc o + j) 0 (omega (arith, h)) (omega (arith, w, length-drop (suc o) leads))))
+      (λ j w. rw getD-drop (last-greatest o leads (suc o + j) (omega (arith, h)) (omega (arith, w, length-drop (suc o) leads))))
 
   pub tried-alone : (leads : List ℕ) (o l : ℕ) → l ≡ lastOf leads o → l ≡ o → TriedAs (mergeLead allowance p rows leads o) M.Done
   tried-alone leads o l e f = record { answer = rw (lead-alone leads o (sym e ∙ f)) refl }
@@ -63,7 +66,8 @@ module _ (allowance p : ℕ) (rows leads : List ℕ) where
   pub check-starts : Checking allowance p rows leads 0
   check-starts = record { within = omega arith; rest = λ side. refl }
 
-  pub clash-test : (side : Side) (o x : ℕ) (rest : List ℕ) → leadsClash allowance p rows side leads o (x ∷ rest) ≡ orElse (cond (eqb x o) (clash side o (mergeLead allowance p rows leads o)) none) (leadsClash allowance p rows side leads (suc o) rest)
+  pub clash-test : (side : Side) (o x : ℕ) (rest : List ℕ) → leadsClash allowance p rows side leads o (x ∷ rest)
+      ≡ orElse (cond (eqb x o) (clash side o (mergeLead allowance p rows leads o)) none) (leadsClash allowance p rows side leads (suc o) rest)
   unfolding leadsClash
   clash-test side o x rest = refl
 
@@ -73,7 +77,9 @@ module _ (allowance p : ℕ) (rows leads : List ℕ) where
 
   module _ (n : ℕ) (s : Checking allowance p rows leads n) where
     module _ (h : n < length leads) where
-      step : (side : Side) → leadsClash allowance p rows side leads n (drop n leads) ≡ orElse (cond (eqb (getD leads n 0) n) (clash side n (mergeLead allowance p rows leads n)) none) (leadsClash allowance p rows side leads (n + 1) (drop (n + 1) leads))
+      step : (side : Side) → leadsClash allowance p rows side leads n (drop n leads)
+          ≡ orElse (cond (eqb (getD leads n 0) n) (clash side n (mergeLead allowance p rows leads n)) none)
+          (leadsClash allowance p rows side leads (n + 1) (drop (n + 1) leads))
       step side = rw (drop-cons leads n 0 h, add-one n) (clash-test side n (getD leads n 0) (drop (suc n) leads))
 
       pub check-past : (getD leads n 0 ≡ n → ⊥) → Checking allowance p rows leads (n + 1)
@@ -95,7 +101,10 @@ module _ (allowance p : ℕ) (rows leads : List ℕ) where
         }
 
         pub check-failed : (i : ℕ) → r ≡ M.FailedAt i → ClashOf allowance p rows leads (C.Failed n i)
-        check-failed i e = record { each = λ side. s .rest side ∙ step side ∙ rw (eq-eqb (getD leads n 0) n lead, failed-row side i e (mergeLead allowance p rows leads n) (t .answer)) }
+        check-failed i e = record {
+          each = λ side. s .rest side ∙ step side
+              ∙ rw (eq-eqb (getD leads n 0) n lead, failed-row side i e (mergeLead allowance p rows leads n) (t .answer));
+        }
 
     pub check-ends : length leads ≤ n → ClashOf allowance p rows leads C.Done
     check-ends h = record { each = λ side. s .rest side ∙ rw (drop-of-length-le leads h) (clash-none side n) }
@@ -122,20 +131,21 @@ module _ (m n : ℕ) (leads before : List ℕ) where
   listing-starts f = record { within = omega arith; fit = f; small = omega arith; noting = noting-starts (leadRows m 0 leads) n before }
 
   module _ (list : List ℕ) (r o : ℕ) (s : Listing m n leads before list r o) where
-    pub code-product : Fits w64 (m * 512)
-    code-product = omega (arith, s .fit .place)
-
     pub list-room : length list ≡ length before
     list-room = noting-length (leadRows m 0 leads) n before (leadRows m o (drop o leads)) r list (s .noting)
 
     module _ (h : o < length leads) where
-      pub code-fits : Fits w64 (m * 512 + o)
-      code-fits = omega (arith, s .fit .place, s .fit .few)
+      pub many-small : m ≤ 512
+      many-small = omega (arith, s .fit .place)
+
+      pub one-small : o ≤ 512
+      one-small = omega (arith, s .fit .few)
 
       pub count-fits : Fits w64 (r + 1)
       count-fits = omega (arith, s .small, s .fit .place, s .fit .before, s .fit .few)
 
-      next : leadRows m o (drop o leads) ≡ cond (eqb (getD leads o 0) o) (rowCode m o ∷ leadRows m (o + 1) (drop (o + 1) leads)) (leadRows m (o + 1) (drop (o + 1) leads))
+      next : leadRows m o (drop o leads) ≡ cond (eqb (getD leads o 0) o) (rowCode m o ∷ leadRows m (o + 1) (drop (o + 1) leads))
+          (leadRows m (o + 1) (drop (o + 1) leads))
       next = rw (drop-cons leads o 0 h, add-one o) (rows-test m o (getD leads o 0) (drop (suc o) leads))
 
       pub listing-past : (getD leads o 0 ≡ o → ⊥) → Listing m n leads before list r (o + 1)
@@ -148,8 +158,9 @@ module _ (m n : ℕ) (leads before : List ℕ) where
             noting = rw e at (s .noting);
           }
 
-      pub listing-lead : getD leads o 0 ≡ o → (list′ : List ℕ) → list′ ≡ set list r (m * 512 + o) → Listing m n leads before list′ (r + 1) (o + 1)
-      listing-lead f list′ g =
+      pub listing-lead : getD leads o 0 ≡ o → (x : ℕ) → x ≡ rowCode m o → (list′ : List ℕ) → list′ ≡ set list r x
+          → Listing m n leads before list′ (r + 1) (o + 1)
+      listing-lead f x hx list′ g =
           let e : leadRows m o (drop o leads) ≡ rowCode m o ∷ leadRows m (o + 1) (drop (o + 1) leads) = next ∙ rw (eq-eqb (getD leads o 0) o f) in
           record {
             within = omega arith;
@@ -158,7 +169,7 @@ module _ (m n : ℕ) (leads before : List ℕ) where
             noting =
                 noting-turn (leadRows m 0 leads) n before true (rowCode m o) r list list′ (leadRows m (o + 1) (drop (o + 1) leads)) (r + 1)
                 (rw e at (s .noting))
-                (record { count = refl; content = g });
+                (record { count = refl; content = g ∙ ap (set list r) hx });
           }
 
     pub listing-ends : length leads ≤ o → NotedAll (leadRows m 0 leads) n before list r
@@ -166,10 +177,15 @@ module _ (m n : ℕ) (leads before : List ℕ) where
         let e : leadRows m o (drop o leads) ≡ [] = rw (drop-of-length-le leads h) (rows-none m o) in
         noting-ends (leadRows m 0 leads) n before r list (rw e at (s .noting))
 
+-- `list_lead`
+pub lead-listed : (m o n x : ℕ) → x ≡ rowCode m o → (list list′ : List ℕ) → list′ ≡ set list n x → NotedAll (rowCode m o ∷ []) n list list′ (n + 1)
+lead-listed m o n x h list list′ e = record { content = e ∙ ap (set list n) h; count = refl }
+
 -- a work row of p readings is the front of a longer one
 
 pub front-held : (p : ℕ) (l : List ℕ) (n r : ℕ) → p ≤ length l → n * p ≤ r → n * length (take p l) ≤ r
 front-held p l n r h k = rw (length-take-le p l h) k
 
-pub tried-front : (allowance p : ℕ) (l rows leads : List ℕ) (o q : ℕ) (d : List ℕ) (r : Merges) → p ≤ length l → MergedGroup (mergeLead allowance (length (take p l)) rows leads o) q d r → TriedAs (mergeLead allowance p rows leads o) r
+pub tried-front : (allowance p : ℕ) (l rows leads : List ℕ) (o q : ℕ) (d : List ℕ) (r : Merges) → p ≤ length l
+    → MergedGroup (mergeLead allowance (length (take p l)) rows leads o) q d r → TriedAs (mergeLead allowance p rows leads o) r
 tried-front allowance p l rows leads o q d r h k = tried-merges (mergeLead allowance p rows leads o) q d r (rw (length-take-le p l h) at k)

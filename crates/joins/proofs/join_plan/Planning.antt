@@ -1,207 +1,141 @@
--- `plan_leads`, `plan_many` and `plan_join`: what is planned so far, and what is left. Assumes nothing.
-use Prim.Native.Nat.{ℕ, suc, _+_, _*_, _≤_, _<_}
+-- All many-side places planned, one by one: `plan_join`. Assumes nothing.
+use Prim.Native.Nat.{ℕ, zero, suc, _+_, _-_, _*_, _/_, _≤_, _<_}
 use mathlib.Core.Path.{_≡_, refl, sym, ap, _∙_}
 use mathlib.Core.Bool.{Bool, true, false, cond}
 use mathlib.Core.Option.{none, some}
 use mathlib.Core.List.{List, [], _∷_, _++_, append-assoc, append-nil}
 use native.Mathlib.Numerals.{add-one}
 use native.Mathlib.Omega.{arith}
-use lib.Dec.{eqb}
-use lib.ListN.{length, getD, drop, length-append, drop-of-length-le}
-use lib.Seq.{drop-cons, sets, length-sets}
-use borrow.Author.Tests.{eq-eqb, ne-eqb}
-use Rattle.model.specs.Labels.{Labels, WellFormed}
-use Rattle.model.specs.Edits.{Names}
-use Rattle.model.specs.Query.{Query, Side}
-use Rattle.model.specs.Row.{twoOverlaps}
+use lib.Dec.{eqb, ltb}
+use lib.ListN.{length, getD, drop, set, length-set, length-append, length-drop, drop-of-length-le}
+use lib.Seq.{drop-cons, sets, getD-set-same, getD-set-other}
+use borrow.Author.Tests.{eq-eqb, ne-eqb, ltb-true, ltb-false}
+use Rattle.model.specs.Limits.{maxSeries}
+use Rattle.model.specs.Lists.{cases}
+use Rattle.model.specs.Labels.{Labels}
+use Rattle.model.specs.Query.{Side}
 use Rattle.model.specs.Laws.Lists.{sets-append}
 use Rattle.semantics.specs.Events.{Duplicate}
 use Rattle.semantics.specs.Rules.{other}
-use Rattle.semantics.specs.Binop.{allowedOverlaps}
-use Rattle.plan.specs.Keys.{dropped, firstOf}
+use Rattle.plan.specs.Keys.{dropped}
 use Rattle.plan.specs.Pairs.{noLabels}
 use Rattle.plan.specs.Conclude.{orElse}
 use Rattle.plan.specs.Laws.Common.{or-none}
-use Rattle.plan.specs.Joins.{JoinSides, leadsOf, leadsClash, leadRows, rowCode, joinClash, joinRowsFrom}
 use Rattle.plan.specs.Laws.Ends.{first-most}
-use Rattle.key_places.specs.Planned.{first-is}
+use Rattle.plan.specs.Joins.{JoinWork, editOf, leadsFor, ledClash, leadRows, rowCode, manyPlace, joinClash, joinRowsFrom}
 use Rattle.record_tags.specs.Lenient.{labelsOf}
-use Rattle.side_parts.specs.Sides.{recordAt, labelsIn}
-use Rattle.joins.specs.declared.join_leads.Checked.{Checked}
-use Rattle.joins.specs.declared.join_leads.Checked.the-variants as C
-use Rattle.joins.specs.lead_marks.Lent.{Lent, ListedBy}
-use Rattle.joins.specs.lead_marks.Marks.{Marked}
-use Rattle.joins.specs.join_leads.Checks.{ClashOf, CodesFit, RowFits}
-use Rattle.noting.specs.Places.{NotedAll}
-use Rattle.joins.proofs.lead_marks.Leaders.{leads-among-long}
-use Rattle.joins.proofs.lead_marks.Marking.{labels-long, labels-here, someone, marked-long}
-use Rattle.joins.proofs.join_leads.Sole.{AtMostOne, first-is-last, nowhere, sole-clash, nowhere-rows, sole-rows}
-use Rattle.end_codes.specs.Codes.{SideEnds, EndsOf, sideFirst, sideLast, side-first, side-last, ends-at}
+use Rattle.side_parts.specs.Sides.{recordAt}
+use Rattle.side_parts.specs.Lent.{Sides, sideLabels, BothHeld}
+use Rattle.key_ends.specs.end_codes.Codes.{SideEnds, EndsOf, sideFirst, sideLast, side-first, ends-at}
+use Rattle.index_lists.specs.Places.{NotedAll}
+use Rattle.row_marks.specs.Words.{RowsMarked}
 use Rattle.joins.specs.declared.join_plan.Plan.{Plan}
 use Rattle.joins.specs.declared.join_plan.Plan.the-variants.{Rows, Failed}
-use Rattle.joins.specs.join_rows.Sides.{OneLent, sidesOf}
-use Rattle.joins.specs.join_plan.Plans.{unlessClash, rowsBeforeClash, LeadsPlanned, ManyPlanned, Planned}
+use Rattle.joins.specs.join_plan.Plans.{unlessClash, rowsBeforeClash, Clean, PlacePlanned, placeLeads, markedLeads, PlaceHeld, leadsAt, RowMarks, Planned}
+use Rattle.joins.proofs.lead_marks.Leaders.{leads-among-long}
+use Rattle.joins.proofs.lead_marks.Marking.{labels-long, labels-here}
+use Rattle.joins.proofs.join_plan.Places.{placed-leads}
 
--- `plan_leads`
-
-module _ (m n p : ℕ) (rows leads before : List ℕ) (x : Checked) (h : ClashOf twoOverlaps p rows leads x) where
-  pub leads-planned : x ≡ C.Done → (after : List ℕ) (c : ℕ) → NotedAll (leadRows m 0 leads) n before after c → LeadsPlanned m n p rows leads before after (Rows c)
-  leads-planned e after c k = record {
-    clash = λ side. h .each side ∙ rw e;
-    notes = record {
-      noted = λ d f. (let z : c ≡ d = cc in rw (← z) k);
-      stopped = λ d i f. absurd (let z : _≡_ {A = ℕ} 0 1 = cc in omega arith);
-      long = ap length (k .content) ∙ length-sets before n (leadRows m 0 leads);
-    };
-  }
-
-  pub leads-failed : (k i : ℕ) → x ≡ C.Failed k i → LeadsPlanned m n p rows leads before before (Failed k i)
-  leads-failed k i e = record {
-    clash = λ side. h .each side ∙ rw e;
-    notes = record {
-      noted = λ d f. absurd (let z : _≡_ {A = ℕ} 0 1 = cc in omega arith);
-      stopped = λ d j f. refl;
-      long = refl;
-    };
-  }
-
--- `plan_marked` and `plan_many`
-
-module _ (p : ℕ) (array at keys rows : List ℕ) (one : OneLent p array at keys rows) where
-  pub one-lent : Lent array at keys
-  one-lent = one .lent
-
-  module _ (join skip : Names) (rec : List ℕ) (k : ℕ) (leads : List ℕ) (marked : Marked join skip rec k array at keys leads) where
-    leads-long : length leads ≡ length keys
-    leads-long = marked-long join skip rec k array at keys leads marked (one .lent)
-
-    pub leads-fit : (m n : ℕ) → CodesFit m n keys → CodesFit m n leads
-    leads-fit m n f = record { place = f .place; before = f .before; few = omega (arith, f .few, leads-long) }
-
-    pub leads-held : length leads * p ≤ length rows
-    leads-held = rw (leads-long, one .held) (omega arith)
-
-  pub leads-narrow : p ≤ 1024
-  leads-narrow = one .narrow
-
-module _ (join skip : Names) (rec : List ℕ) (k : ℕ) (array at keys leads : List ℕ) (marked : Marked join skip rec k array at keys leads) where
-  pub many-planned : (m n p : ℕ) (rows before after : List ℕ) (r : Plan) → LeadsPlanned m n p rows leads before after r → ManyPlanned join skip rec m k n p array at keys rows before after r
-  many-planned m n p rows before after r h = record { each = λ q g. rw (← marked .each q g) h }
-
--- `plan_place`
-
-module _ (keys : List ℕ) (k c : ℕ) (ends : EndsOf keys k c) (first : ℕ) (hf : first ≡ sideFirst c) where
-  is-first : first ≡ firstOf keys k
-  is-first = hf ∙ side-first keys k c ends
-
-  module _ (f : first ≡ length keys → ⊥) where
-    first-inside : first < length keys
-    first-inside = omega (arith, f, is-first, first-most k keys)
-
-    pub row-fits : (m n : ℕ) → CodesFit m n keys → RowFits m first n
-    row-fits m n fit = record { many = fit .place; one = omega (arith, first-inside, fit .few); before = fit .before }
-
-module _ (p : ℕ) (array at keys rows : List ℕ) (one : OneLent p array at keys rows) (join skip : Names) (rec : List ℕ) (m k n : ℕ) where
-  -- where the key has at most one series on the one side, its rows are those noted
-  sole-planned : AtMostOne keys k → (before after : List ℕ) (c : ℕ) → ((q : Query) → NotedAll (leadRows m 0 (leadsOf q (labelsOf rec) k keys (labelsIn array at))) n before after c)
-      → ManyPlanned join skip rec m k n p array at keys rows before after (Rows c)
-  sole-planned sole before after c h = record {
-    each = λ q g. record {
-      clash = λ side. sole-clash q (labelsOf rec) k keys (labelsIn array at) (labels-long array at keys (one .lent)) (one .lent .few) sole twoOverlaps p rows side;
-      notes = record {
-        noted = λ d f. (let z : c ≡ d = cc in rw (← z) (h q));
-        stopped = λ d i f. absurd (let z : _≡_ {A = ℕ} 0 1 = cc in omega arith);
-        long = ap length (h q .content) ∙ length-sets before n (leadRows m 0 (leadsOf q (labelsOf rec) k keys (labelsIn array at)));
-      };
-    };
-  }
-
-  module _ (c : ℕ) (ends : EndsOf keys k c) (first : ℕ) (hf : first ≡ sideFirst c) where
-    pub none-planned : (before : List ℕ) → first ≡ length keys → ManyPlanned join skip rec m k n p array at keys rows before before (Rows n)
-    none-planned before e =
-        let absent : length keys ≤ firstOf keys k = omega (arith, is-first keys k c ends first hf, e) in
-        sole-planned (nowhere keys k absent) before before n
-        (λ q. rw (nowhere-rows q (labelsOf rec) k keys (labelsIn array at) (labels-long array at keys (one .lent)) (one .lent .few) (nowhere keys k absent) m absent) (record { content = refl; count = omega arith }))
-
-    pub one-planned : (first ≡ length keys → ⊥) → (last : ℕ) → last ≡ sideLast c → first ≡ last → (before after : List ℕ) (r : ℕ) → NotedAll (rowCode m first ∷ []) n before after r → ManyPlanned join skip rec m k n p array at keys rows before after (Rows r)
-    one-planned f last hl e before after r noted =
-        let is = is-first keys k c ends first hf in
-        let inside = first-inside keys k c ends first hf f in
-        let sole : AtMostOne keys k = first-is-last keys k (sym is ∙ e ∙ hl ∙ side-last keys k c ends) in
-        let key : getD keys first 0 ≡ k = rw is (first-is k keys (rw (← is) inside)) in
-        sole-planned sole before after r
-        (λ q. rw (sole-rows q (labelsOf rec) k keys (labelsIn array at) (labels-long array at keys (one .lent)) (one .lent .few) sole m first is key inside) noted)
-
--- the front of an array as a row of its own
--- `plan_join`
-
-pub two-overlaps : (q : Query) → allowedOverlaps q ≡ twoOverlaps
-unfolding allowedOverlaps
-two-overlaps q = refl
+-- rows by leaders
 
 lead-rows-few : (m o : ℕ) (leads : List ℕ) → length (leadRows m o leads) ≤ length leads
 unfolding leadRows
 lead-rows-few m o [] = omega arith
 lead-rows-few m o (x ∷ leads) = go (eqb x o) (lead-rows-few m (suc o) leads)
   where
-    go : (t : Bool) → length (leadRows m (suc o) leads) ≤ length leads → length (cond t ((m * 512 + o) ∷ leadRows m (suc o) leads) (leadRows m (suc o) leads)) ≤ suc (length leads)
+    go : (t : Bool) → length (leadRows m (suc o) leads) ≤ length leads
+        → length (cond t (rowCode m o ∷ leadRows m (suc o) leads) (leadRows m (suc o) leads)) ≤ suc (length leads)
     go true h = omega (arith, h)
     go false h = omega (arith, h)
 
--- under one query: the many-side places before i are planned
-record PlanRest (q : Query) (many : Side) (s : JoinSides) (ks : List ℕ) (ls : List Labels) (before list : List ℕ) (n i : ℕ) : Type 0 where
-  clash : joinClash q many s ks ls ≡ joinClash q many s (drop i ks) (drop i ls)
+-- the codes of a many-side place tell it
+rows-place : (m o : ℕ) (leads : List ℕ) (j : ℕ) → o + length leads ≤ maxSeries → j < length (leadRows m o leads) → manyPlace (getD (leadRows m o leads) j 0) ≡ m
+unfolding leadRows
+rows-place m o [] j few h = absurd (omega arith)
+rows-place m o (x ∷ leads) j few h = go (eqb x o) j h (rows-place m (suc o) leads)
+  where
+    go : (b : Bool) (j : ℕ) → j < length (cond b (rowCode m o ∷ leadRows m (suc o) leads) (leadRows m (suc o) leads))
+        → ((j : ℕ) → suc o + length leads ≤ maxSeries → j < length (leadRows m (suc o) leads) → manyPlace (getD (leadRows m (suc o) leads) j 0) ≡ m)
+        → manyPlace (getD (cond b (rowCode m o ∷ leadRows m (suc o) leads) (leadRows m (suc o) leads)) j 0) ≡ m
+    go true zero h ih = code
+      where
+        code : manyPlace (rowCode m o) ≡ m
+        code = omega (arith, few)
+    go true (suc j) h ih = ih j (omega (arith, few)) (omega arith)
+    go false j h ih = ih j (omega (arith, few)) h
+
+-- a run of stores, read again
+
+sets-below : (l : List ℕ) (i : ℕ) (xs : List ℕ) (j : ℕ) → j < i → getD (sets l i xs) j 0 ≡ getD l j 0
+sets-below l i [] j h = refl
+sets-below l i (x ∷ xs) j h = sets-below (set l i x) (suc i) xs j (omega arith) ∙ getD-set-other l i j x 0 (λ z. omega (arith, z, h))
+
+sets-in : (l : List ℕ) (i : ℕ) (xs : List ℕ) (j : ℕ) → j < length xs → i + j < length l → getD (sets l i xs) (i + j) 0 ≡ getD xs j 0
+sets-in l i [] j h k = absurd (omega arith)
+sets-in l i (x ∷ xs) zero h k =
+    let z : i + 0 ≡ i = omega arith in
+    rw z (sets-below (set l i x) (suc i) xs i (omega arith) ∙ getD-set-same l i x 0 (omega arith))
+sets-in l i (x ∷ xs) (suc j) h k =
+    let z : i + suc j ≡ suc i + j = omega arith in
+    rw z (sets-in (set l i x) (suc i) xs j (omega arith) (omega (arith, k, length-set l i x)))
+
+-- the many-side places before i are planned
+record PlanRest (w : JoinWork) (many : Side) (s : Sides) (ks : List ℕ) (ls : List Labels) (before list : List ℕ) (n i : ℕ) : Type 0 where
+  clash : joinClash w many s ks ls ≡ joinClash w many s (drop i ks) (drop i ls)
   sofar : List ℕ
-  rows : sofar ++ joinRowsFrom q s i (drop i ks) (drop i ls) ≡ joinRowsFrom q s 0 ks ls
+  rows : sofar ++ joinRowsFrom w s i (drop i ks) (drop i ls) ≡ joinRowsFrom w s 0 ks ls
   stored : list ≡ sets before 0 sofar
   count : n ≡ length sofar
-  first : sofar ++ rowsBeforeClash q many s i (drop i ks) (drop i ls) ≡ rowsBeforeClash q many s 0 ks ls
+  first : sofar ++ rowsBeforeClash w many s i (drop i ks) (drop i ls) ≡ rowsBeforeClash w many s 0 ks ls
 
-module _ (q : Query) (many : Side) (s : JoinSides) (ks : List ℕ) (ls : List Labels) (before : List ℕ) where
-  rest-starts : PlanRest q many s ks ls before before 0 0
+module _ (w : JoinWork) (many : Side) (s : Sides) (ks : List ℕ) (ls : List Labels) (before : List ℕ) where
+  rest-starts : PlanRest w many s ks ls before before 0 0
   rest-starts = record { clash = refl; sofar = []; rows = refl; stored = refl; count = refl; first = refl }
 
-  clash-test : (k : ℕ) (xs : List ℕ) (l : Labels) (ms : List Labels) → joinClash q many s (k ∷ xs) (l ∷ ms)
-      ≡ orElse (cond (eqb k dropped) none (leadsClash (allowedOverlaps q) (s .points) (s .oneRows) (other many) (leadsOf q l k (s .oneKeys) (s .oneLabels)) 0 (leadsOf q l k (s .oneKeys) (s .oneLabels)))) (joinClash q many s xs ms)
+  clash-test : (k : ℕ) (xs : List ℕ) (l : Labels) (ms : List Labels) → joinClash w many s (k ∷ xs) (l ∷ ms)
+      ≡ orElse (cond (eqb k dropped) none (ledClash (w .allowance) (other many) s (leadsFor w s l k))) (joinClash w many s xs ms)
   unfolding joinClash
   clash-test k xs l ms = refl
 
-  rows-test : (m k : ℕ) (xs : List ℕ) (l : Labels) (ms : List Labels) → joinRowsFrom q s m (k ∷ xs) (l ∷ ms) ≡ cond (eqb k dropped) [] (leadRows m 0 (leadsOf q l k (s .oneKeys) (s .oneLabels))) ++ joinRowsFrom q s (suc m) xs ms
+  rows-test : (m k : ℕ) (xs : List ℕ) (l : Labels) (ms : List Labels)
+      → joinRowsFrom w s m (k ∷ xs) (l ∷ ms) ≡ cond (eqb k dropped) [] (leadRows m 0 (leadsFor w s l k)) ++ joinRowsFrom w s (suc m) xs ms
   unfolding joinRowsFrom
   rows-test m k xs l ms = refl
 
-  clash-none : (ms : List Labels) → joinClash q many s [] ms ≡ none
+  clash-none : (ms : List Labels) → joinClash w many s [] ms ≡ none
   unfolding joinClash
   clash-none ms = refl
 
-  rows-none : (m : ℕ) (ms : List Labels) → joinRowsFrom q s m [] ms ≡ []
+  rows-none : (m : ℕ) (ms : List Labels) → joinRowsFrom w s m [] ms ≡ []
   unfolding joinRowsFrom
   rows-none m ms = refl
 
-  before-test : (m k : ℕ) (xs : List ℕ) (l : Labels) (ms : List Labels) → rowsBeforeClash q many s m (k ∷ xs) (l ∷ ms)
-      ≡ unlessClash (cond (eqb k dropped) none (leadsClash (allowedOverlaps q) (s .points) (s .oneRows) (other many) (leadsOf q l k (s .oneKeys) (s .oneLabels)) 0 (leadsOf q l k (s .oneKeys) (s .oneLabels))))
-      (cond (eqb k dropped) [] (leadRows m 0 (leadsOf q l k (s .oneKeys) (s .oneLabels))) ++ rowsBeforeClash q many s (suc m) xs ms)
+  before-test : (m k : ℕ) (xs : List ℕ) (l : Labels) (ms : List Labels) → rowsBeforeClash w many s m (k ∷ xs) (l ∷ ms)
+      ≡ unlessClash (cond (eqb k dropped) none (ledClash (w .allowance) (other many) s (leadsFor w s l k)))
+      (cond (eqb k dropped) [] (leadRows m 0 (leadsFor w s l k)) ++ rowsBeforeClash w many s (suc m) xs ms)
   unfolding rowsBeforeClash
   before-test m k xs l ms =
       rw (clash-test k [] l [], rows-test m k [] l [], clash-none [], rows-none (suc m) []) (rw (or-none, append-nil))
 
-  module _ (list : List ℕ) (n i : ℕ) (t : PlanRest q many s ks ls before list n i) where
+  module _ (list : List ℕ) (n i : ℕ) (t : PlanRest w many s ks ls before list n i) where
     module _ (h : i < length ks) (g : i < length ls) (k : ℕ) (l : Labels) (hk : k ≡ getD ks i 0) (hl : getD ls i noLabels ≡ l) where
       abbrev leads : List ℕ
-      leads = leadsOf q l k (s .oneKeys) (s .oneLabels)
+      leads = leadsFor w s l k
 
-      clash-step : joinClash q many s (drop i ks) (drop i ls) ≡ orElse (cond (eqb k dropped) none (leadsClash twoOverlaps (s .points) (s .oneRows) (other many) leads 0 leads)) (joinClash q many s (drop (i + 1) ks) (drop (i + 1) ls))
-      clash-step = rw (drop-cons ks i 0 h, drop-cons ls i noLabels g, ← hk, hl, add-one i, ← two-overlaps q) (clash-test k (drop (suc i) ks) l (drop (suc i) ls))
+      clash-step : joinClash w many s (drop i ks) (drop i ls)
+          ≡ orElse (cond (eqb k dropped) none (ledClash (w .allowance) (other many) s leads)) (joinClash w many s (drop (i + 1) ks) (drop (i + 1) ls))
+      clash-step = rw (drop-cons ks i 0 h, drop-cons ls i noLabels g, ← hk, hl, add-one i) (clash-test k (drop (suc i) ks) l (drop (suc i) ls))
 
-      rows-step : joinRowsFrom q s i (drop i ks) (drop i ls) ≡ cond (eqb k dropped) [] (leadRows i 0 leads) ++ joinRowsFrom q s (i + 1) (drop (i + 1) ks) (drop (i + 1) ls)
+      rows-step : joinRowsFrom w s i (drop i ks) (drop i ls)
+          ≡ cond (eqb k dropped) [] (leadRows i 0 leads) ++ joinRowsFrom w s (i + 1) (drop (i + 1) ks) (drop (i + 1) ls)
       rows-step = rw (drop-cons ks i 0 h, drop-cons ls i noLabels g, ← hk, hl, add-one i) (rows-test i k (drop (suc i) ks) l (drop (suc i) ls))
 
-      before-step : rowsBeforeClash q many s i (drop i ks) (drop i ls)
-          ≡ unlessClash (cond (eqb k dropped) none (leadsClash twoOverlaps (s .points) (s .oneRows) (other many) leads 0 leads))
-          (cond (eqb k dropped) [] (leadRows i 0 leads) ++ rowsBeforeClash q many s (i + 1) (drop (i + 1) ks) (drop (i + 1) ls))
-      before-step = rw (drop-cons ks i 0 h, drop-cons ls i noLabels g, ← hk, hl, add-one i, ← two-overlaps q) (before-test i k (drop (suc i) ks) l (drop (suc i) ls))
+      before-step : rowsBeforeClash w many s i (drop i ks) (drop i ls)
+          ≡ unlessClash (cond (eqb k dropped) none (ledClash (w .allowance) (other many) s leads))
+          (cond (eqb k dropped) [] (leadRows i 0 leads) ++ rowsBeforeClash w many s (i + 1) (drop (i + 1) ks) (drop (i + 1) ls))
+      before-step = rw (drop-cons ks i 0 h, drop-cons ls i noLabels g, ← hk, hl, add-one i) (before-test i k (drop (suc i) ks) l (drop (suc i) ls))
 
-      rest-skip : k ≡ dropped → PlanRest q many s ks ls before list n (i + 1)
+      rest-skip : k ≡ dropped → PlanRest w many s ks ls before list n (i + 1)
       rest-skip e = record {
         clash = t .clash ∙ clash-step ∙ rw (eq-eqb k dropped e);
         sofar = t .sofar;
@@ -212,131 +146,246 @@ module _ (q : Query) (many : Side) (s : JoinSides) (ks : List ℕ) (ls : List La
       }
 
       module _ (f : k ≡ dropped → ⊥) where
-        rest-rows : leadsClash twoOverlaps (s .points) (s .oneRows) (other many) leads 0 leads ≡ none → (after : List ℕ) (c : ℕ) → NotedAll (leadRows i 0 leads) n list after c → PlanRest q many s ks ls before after c (i + 1)
-        rest-rows e after c w = record {
+        rest-rows : ledClash (w .allowance) (other many) s leads ≡ none → (after : List ℕ) (c : ℕ) → NotedAll (leadRows i 0 leads) n list after c
+            → PlanRest w many s ks ls before after c (i + 1)
+        rest-rows e after c noted = record {
           clash = t .clash ∙ clash-step ∙ rw (ne-eqb k dropped f, e);
           sofar = t .sofar ++ leadRows i 0 leads;
-          rows = append-assoc (t .sofar) (leadRows i 0 leads) (joinRowsFrom q s (i + 1) (drop (i + 1) ks) (drop (i + 1) ls))
+          rows = append-assoc (t .sofar) (leadRows i 0 leads) (joinRowsFrom w s (i + 1) (drop (i + 1) ks) (drop (i + 1) ls))
               ∙ ap (λ (x : List ℕ). t .sofar ++ x) (sym (rows-step ∙ rw (ne-eqb k dropped f))) ∙ t .rows;
-          stored = (let z : 0 + length (t .sofar) ≡ length (t .sofar) = omega arith in w .content ∙ rw (t .stored, t .count, ← z) (sym (sets-append before 0 (t .sofar) (leadRows i 0 leads))));
-          count = w .count ∙ rw (t .count) (sym (length-append (t .sofar) (leadRows i 0 leads)));
-          first = append-assoc (t .sofar) (leadRows i 0 leads) (rowsBeforeClash q many s (i + 1) (drop (i + 1) ks) (drop (i + 1) ls))
+          stored = (let z : 0 + length (t .sofar) ≡ length (t .sofar) = omega arith in noted .content
+              ∙ rw (t .stored, t .count, ← z) (sym (sets-append before 0 (t .sofar) (leadRows i 0 leads))));
+          count = noted .count ∙ rw (t .count) (sym (length-append (t .sofar) (leadRows i 0 leads)));
+          first = append-assoc (t .sofar) (leadRows i 0 leads) (rowsBeforeClash w many s (i + 1) (drop (i + 1) ks) (drop (i + 1) ls))
               ∙ ap (λ (x : List ℕ). t .sofar ++ x) (sym (before-step ∙ rw (ne-eqb k dropped f, e))) ∙ t .first;
         }
 
         -- at a clash the rows of the places before are noted
-        rest-stopped : (d : Duplicate) → leadsClash twoOverlaps (s .points) (s .oneRows) (other many) leads 0 leads ≡ some d → list ≡ sets before 0 (rowsBeforeClash q many s 0 ks ls)
+        rest-stopped : (d : Duplicate) → ledClash (w .allowance) (other many) s leads ≡ some d → list ≡ sets before 0 (rowsBeforeClash w many s 0 ks ls)
         rest-stopped d e =
-            let none-more : rowsBeforeClash q many s i (drop i ks) (drop i ls) ≡ [] = before-step ∙ rw (ne-eqb k dropped f, e) in
+            let none-more : rowsBeforeClash w many s i (drop i ks) (drop i ls) ≡ [] = before-step ∙ rw (ne-eqb k dropped f, e) in
             t .stored ∙ ap (sets before 0) (sym (append-nil (t .sofar)) ∙ ap (λ (x : List ℕ). t .sofar ++ x) (sym none-more) ∙ t .first)
 
-        rest-failed : (d : Duplicate) → leadsClash twoOverlaps (s .points) (s .oneRows) (other many) leads 0 leads ≡ some d → joinClash q many s ks ls ≡ some d
+        rest-failed : (d : Duplicate) → ledClash (w .allowance) (other many) s leads ≡ some d → joinClash w many s ks ls ≡ some d
         rest-failed d e = t .clash ∙ clash-step ∙ rw (ne-eqb k dropped f, e)
 
     module _ (h : length ks ≤ i) where
-      end-clash : joinClash q many s ks ls ≡ none
+      end-clash : joinClash w many s ks ls ≡ none
       end-clash = t .clash ∙ rw (drop-of-length-le ks h) (clash-none (drop i ls))
 
-      end-rows : t .sofar ≡ joinRowsFrom q s 0 ks ls
+      end-rows : t .sofar ≡ joinRowsFrom w s 0 ks ls
       end-rows = sym (append-nil (t .sofar)) ∙ ap (λ (x : List ℕ). t .sofar ++ x) (sym (rw (drop-of-length-le ks h) (rows-none i (drop i ls)))) ∙ t .rows
 
-      rest-noted : NotedAll (joinRowsFrom q s 0 ks ls) 0 before list n
+      rest-noted : NotedAll (joinRowsFrom w s 0 ks ls) 0 before list n
       rest-noted = record { content = t .stored ∙ ap (sets before 0) end-rows; count = t .count ∙ ap length end-rows ∙ omega arith }
 
-pub record Planning (join skip : Names) (p : ℕ) (ma mt mk a t k r before list : List ℕ) (n i : ℕ) : Type 0 where
-  pub within : i ≤ length mk
-  pub small : n ≤ i * 512
-  pub long : length list ≡ length before
-  each : (q : Query) → ListedBy q join skip → (many : Side) (mr : List ℕ) → PlanRest q many (sidesOf p ma mt mk mr a t k r) mk (labelsIn ma mt) before list n i
+-- the places before i are planned, and the rows that they give are marked; no other row has a mark
+pub record Planning (w : JoinWork) (many : Side) (s : Sides) (ends list₀ marks₀ leads list marks : List ℕ) (n i : ℕ) : Type 0 where
+  pub held : BothHeld s
+  pub known : SideEnds (s .right .keys) (s .left .keys) ends
+  pub listed : length list₀ ≤ maxSeries
+  pub room : length leads ≡ maxSeries
+  pub within : i ≤ length (s .left .keys)
+  pub small : n ≤ i * maxSeries
+  pub long : length list ≡ length list₀
+  rest : PlanRest w many s (s .left .keys) (sideLabels (s .left)) list₀ list n i
+  pub words : length marks ≡ length marks₀
+  pub clean : Clean n marks
+  pub marked : (j : ℕ) → j < n → j < length list → j * 8 + 8 ≤ length marks₀ → RowMarks w s list marks j
 
-module _ (join skip : Names) (p : ℕ) (ma mt mk a t k r before : List ℕ) where
-  pub planning-starts : Planning join skip p ma mt mk a t k r before before 0 0
-  planning-starts = record { within = omega arith; small = omega arith; long = refl; each = λ q g many mr. rest-starts q many (sidesOf p ma mt mk mr a t k r) mk (labelsIn ma mt) before }
+module _ (w : JoinWork) (many : Side) (s : Sides) (ends list₀ marks₀ : List ℕ) where
+  abbrev ks : List ℕ
+  ks = s .left .keys
 
-  module _ (many-lent : Lent ma mt mk) (one : OneLent p a t k r) (list : List ℕ) (n i : ℕ) (w : Planning join skip p ma mt mk a t k r before list n i) where
-    module _ (h : i < length mk) where
-      pub place-fits : CodesFit i n k
-      place-fits = record { place = omega (arith, h, many-lent .few); before = w .small; few = one .lent .few }
+  abbrev ls : List Labels
+  ls = sideLabels (s .left)
 
-      module _ (ends : List ℕ) (e : SideEnds k mk ends) where
-        pub ends-inside : i < length ends
-        ends-inside = omega (arith, h, e .room)
+  abbrev count : ℕ
+  count = length (s .right .keys)
 
-        pub ends-here : EndsOf k (getD mk i 0) (getD ends i 0)
-        ends-here = ends-at k mk ends (one .lent .few) e i h
+  pub planning-starts : BothHeld s → SideEnds (s .right .keys) (s .left .keys) ends → length list₀ ≤ maxSeries → Clean 0 marks₀ → (leads : List ℕ)
+      → length leads ≡ maxSeries → Planning w many s ends list₀ marks₀ leads list₀ marks₀ 0 0
+  planning-starts held known few clean leads room = record {
+    held = held;
+    known = known;
+    listed = few;
+    room = room;
+    within = omega arith;
+    small = omega arith;
+    long = refl;
+    rest = rest-starts w many s ks ls list₀;
+    words = refl;
+    clean = clean;
+    marked = λ j h. absurd (omega arith);
+  }
 
-      pub record-inside : i + 1 < length mt
-      record-inside = omega (arith, many-lent .count)
+  module _ (leads list marks : List ℕ) (n i : ℕ) (t : Planning w many s ends list₀ marks₀ leads list marks n i) where
+    one-labels : length (sideLabels (s .right)) ≡ count
+    one-labels = labels-long (s .right .array) (s .right .at) (s .right .keys) (t .held .right .count)
 
-      pub record-formed : (x : List ℕ) → x ≡ recordAt ma mt i → WellFormed (labelsOf x)
-      record-formed x e = rw e (many-lent .formed i h)
+    pub list-long : length list ≡ length list₀
+    list-long = t .long
 
-      inside : i < length (labelsIn ma mt)
-      inside = omega (arith, h, labels-long ma mt mk many-lent)
+    pub marks-long : length marks ≡ length marks₀
+    marks-long = t .words
 
-      module _ (key : ℕ) (hk : key ≡ getD mk i 0) where
-        pub planning-skip : key ≡ dropped → Planning join skip p ma mt mk a t k r before list n (i + 1)
+    pub planning-ends : length ks ≤ i → Planned w many s list₀ marks₀ list marks (Rows n)
+    planning-ends h = record {
+      clash = end-clash w many s ks ls list₀ list n i (t .rest) h;
+      notes = record {
+        noted = λ c e. (let z : n ≡ c = cc in rw (← z) (rest-noted w many s ks ls list₀ list n i (t .rest) h));
+        stopped = λ d j e. absurd (let z : _≡_ {A = ℕ} 0 1 = cc in omega arith);
+        long = t .long;
+      };
+      long = t .words;
+      marked = λ c e j h. t .marked j (let z : n ≡ c = cc in omega (arith, z, h));
+    }
+
+    module _ (h : i < length ks) where
+      pub record-inside : i + 1 < length (s .left .at)
+      record-inside = omega (arith, t .held .left .count)
+
+      pub ends-small : i < maxSeries
+      ends-small = omega (arith, h, t .held .left .rows .few)
+
+      code : EndsOf (s .right .keys) (getD ks i 0) (getD ends i 0)
+      code = ends-at (s .right .keys) ks ends (t .held .right .rows .few) (t .known) i h
+
+      inside : i < length ls
+      inside = omega (arith, h, labels-long (s .left .array) (s .left .at) ks (t .held .left .count))
+
+      pub place-held : (leads′ : List ℕ) → length leads′ ≡ length leads
+          → PlaceHeld i (getD ends i 0) n (s .shape .points) count (s .right .rows) leads′ list marks
+      place-held leads′ e = record {
+        place = omega (arith, h, t .held .left .rows .few);
+        before = t .small;
+        few = t .held .right .rows .few;
+        first = omega (arith, side-first (s .right .keys) (getD ks i 0) (getD ends i 0) code, first-most (getD ks i 0) (s .right .keys));
+        held = omega (arith, t .held .right .rows .whole);
+        narrow = t .held .right .rows .narrow;
+        room = omega (arith, e, t .room, t .held .right .rows .few);
+        listed = omega (arith, t .long, t .listed);
+        clean = t .clean;
+      }
+
+      module _ (key : ℕ) (hk : key ≡ getD ks i 0) where
+        pub planning-skip : key ≡ dropped → Planning w many s ends list₀ marks₀ leads list marks n (i + 1)
         planning-skip e = record {
+          held = t .held;
+          known = t .known;
+          listed = t .listed;
+          room = t .room;
           within = omega arith;
-          small = omega (arith, w .small);
-          long = w .long;
-          each = λ q g many mr. rest-skip q many (sidesOf p ma mt mk mr a t k r) mk (labelsIn ma mt) before list n i (w .each q g many mr) h inside key (labelsOf (recordAt ma mt i)) hk (labels-here ma mt mk many-lent i h) e;
+          small = omega (arith, t .small);
+          long = t .long;
+          rest = rest-skip w many s ks ls list₀ list n i (t .rest) h inside key (getD ls i noLabels) hk refl e;
+          words = t .words;
+          clean = t .clean;
+          marked = t .marked;
         }
 
-        module _ (f : key ≡ dropped → ⊥) (x : List ℕ) (hx : x ≡ recordAt ma mt i) (after : List ℕ) (v : Plan) (planned : ManyPlanned join skip x i key n p a t k r list after v) where
-          here : getD (labelsIn ma mt) i noLabels ≡ labelsOf x
-          here = labels-here ma mt mk many-lent i h ∙ ap labelsOf (sym hx)
+        module _ (f : key ≡ dropped → ⊥) (x : List ℕ) (hx : x ≡ recordAt (s .left .array) (s .left .at) i) (leads′ : List ℕ)
+            (led : leads′ ≡ markedLeads (getD ends i 0) count (leadsFor w s (labelsOf x) key) leads) (list′ marks′ : List ℕ) (v : Plan)
+            (planned : PlacePlanned (w .allowance) i n (s .shape .points) (s .right .rows)
+            (placeLeads (getD ends i 0) count leads′) list marks list′ marks′ v) where
+          here : getD ls i noLabels ≡ labelsOf x
+          here = labels-here (s .left .array) (s .left .at) ks (t .held .left .count) i h ∙ ap labelsOf (sym hx)
 
-          few-rows : (c : ℕ) → v ≡ Rows c → c ≤ n + length k
-          few-rows c e =
-              let q = someone join skip .q in
-              let l = planned .each q (someone join skip .lists) in
-              let all = leadsOf q (labelsOf x) key k (labelsIn a t) in
-              let len = leads-among-long q (labelsOf x) key k (labelsIn a t) k (labelsIn a t) (sym (labels-long a t k (one .lent))) in
-              omega (arith, l .notes .noted c e .count, lead-rows-few i 0 all, len)
+          abbrev lead : List ℕ
+          lead = leadsFor w s (labelsOf x) key
 
-          pub after-long : length after ≡ length before
-          after-long = planned .each (someone join skip .q) (someone join skip .lists) .notes .long ∙ w .long
+          by-lead : PlacePlanned (w .allowance) i n (s .shape .points) (s .right .rows) lead list marks list′ marks′ v
+          by-lead =
+              rw (placed-leads (editOf w) (labelsOf x) (s .right .keys) key (getD ends i 0) (rw hk code)
+              (sideLabels (s .right)) one-labels leads′ leads led) at planned
 
-          pub planning-rows : (c : ℕ) → v ≡ Rows c → Planning join skip p ma mt mk a t k r before after c (i + 1)
-          planning-rows c e = record {
-            within = omega arith;
-            small = omega (arith, few-rows c e, w .small, one .lent .few);
-            long = after-long;
-            each = λ q g many mr.
-                let l = planned .each q g in
-                rest-rows q many (sidesOf p ma mt mk mr a t k r) mk (labelsIn ma mt) before list n i (w .each q g many mr) h inside key (labelsOf x) hk here f
-                (l .clash (other many) ∙ rw e) after c (l .notes .noted c e);
-          }
+          lead-long : length lead ≡ count
+          lead-long = leads-among-long (editOf w) (labelsOf x) key (s .right .keys) (sideLabels (s .right)) (s .right .keys) (sideLabels (s .right))
+              (sym one-labels)
 
-          pub planning-failed : (kept failed : ℕ) → v ≡ Failed kept failed → Planned join skip p ma mt mk a t k r before after (Failed kept failed)
-          planning-failed kept failed e = record {
-            each = λ q g many mr.
-                let l = planned .each q g in
-                let d : Duplicate = record { kept = record { side = other many; number = kept }; failed = record { side = other many; number = failed } } in
-                record {
-                  clash = rest-failed q many (sidesOf p ma mt mk mr a t k r) mk (labelsIn ma mt) before list n i (w .each q g many mr) h inside key (labelsOf x) hk here f d (l .clash (other many) ∙ rw e);
-                  notes = record {
-                    noted = λ d z. absurd (let y : _≡_ {A = ℕ} 0 1 = cc in omega arith);
-                    stopped = λ _ _ _. l .notes .stopped kept failed e ∙ rest-stopped q many (sidesOf p ma mt mk mr a t k r) mk (labelsIn ma mt) before list n i (w .each q g many mr) h inside key (labelsOf x) hk here f d (l .clash (other many) ∙ rw e);
-                    long = after-long;
-                  };
+          lead-few : length lead ≤ maxSeries
+          lead-few = omega (arith, lead-long, t .held .right .rows .few)
+
+          kept : length leads′ ≡ length leads
+          kept =
+              ap length led
+              ∙ cases (eqb (sideFirst (getD ends i 0)) (sideLast (getD ends i 0)))
+              (λ y. rw y)
+              (λ y. rw (y, length-append, lead-long, length-drop) (omega (arith, t .room, t .held .right .rows .few)))
+
+          pub after-long : length list′ ≡ length list₀
+          after-long = planned .notes .long ∙ t .long
+
+          pub words-after : length marks′ ≡ length marks₀
+          words-after = planned .marked .long ∙ t .words
+
+          pub planning-failed : (kept failed : ℕ) → v ≡ Failed kept failed → Planned w many s list₀ marks₀ list′ marks′ (Failed kept failed)
+          planning-failed kept failed e =
+              let d : Duplicate = record { kept = record { side = other many; number = kept }; failed = record { side = other many; number = failed } } in
+              let clashes : ledClash (w .allowance) (other many) s lead ≡ some d = by-lead .clash (other many) ∙ rw e in
+              record {
+                clash = rest-failed w many s ks ls list₀ list n i (t .rest) h inside key (labelsOf x) hk here f d clashes;
+                notes = record {
+                  noted = λ d z. absurd (let y : _≡_ {A = ℕ} 0 1 = cc in omega arith);
+                  stopped = λ _ _ _. by-lead .notes .stopped kept failed e
+                      ∙ rest-stopped w many s ks ls list₀ list n i (t .rest) h inside key (labelsOf x) hk here f d clashes;
+                  long = after-long;
                 };
-          }
+                long = words-after;
+                marked = λ c z. absurd (let y : _≡_ {A = ℕ} 0 1 = cc in omega arith);
+              }
 
-    pub list-long : length list ≡ length before
-    list-long = w .long
+          module _ (c : ℕ) (e : v ≡ Rows c) where
+            noted : NotedAll (leadRows i 0 lead) n list list′ c
+            noted = by-lead .notes .noted c e
 
-    pub planning-ends : length mk ≤ i → Planned join skip p ma mt mk a t k r before list (Rows n)
-    planning-ends h = record {
-      each = λ q g many mr.
-          let s = sidesOf p ma mt mk mr a t k r in
-          record {
-            clash = end-clash q many s mk (labelsIn ma mt) before list n i (w .each q g many mr) h;
-            notes = record {
-              noted = λ c e. (let z : n ≡ c = cc in rw (← z) (rest-noted q many s mk (labelsIn ma mt) before list n i (w .each q g many mr) h));
-              stopped = λ d j e. absurd (let z : _≡_ {A = ℕ} 0 1 = cc in omega arith);
-              long = w .long;
-            };
-          };
-    }
+            rows : RowsMarked lead list′ n c marks marks′
+            rows = by-lead .marked .rows c e
+
+            same-list : length list′ ≡ length list
+            same-list = by-lead .notes .long
+
+            all-few : (m : ℕ) → length (leadsAt w s m) ≤ maxSeries
+            all-few m =
+                omega (
+                  arith,
+                  t .held .right .rows .few,
+                  leads-among-long (editOf w) (getD ls m noLabels) (getD ks m 0) (s .right .keys) (sideLabels (s .right)) (s .right .keys)
+                      (sideLabels (s .right)) (sym one-labels),
+                )
+
+            old : (j : ℕ) → j < n → j < length list′ → j * 8 + 8 ≤ length marks₀ → RowMarks w s list′ marks′ j
+            old j a l r =
+                let same : getD list′ j 0 ≡ getD list j 0 = ap (λ (y : List ℕ). getD y j 0) (noted .content) ∙ sets-below list n (leadRows i 0 lead) j a in
+                rw same
+                (record {
+                  each = λ b u.
+                      let low : b / 64 < 8 = omega (arith, u, all-few (manyPlace (getD list j 0))) in
+                      rw (rows .frame .below (j * 8 + b / 64) (omega (arith, low, a))) (t .marked j a (omega (arith, l, same-list)) r .each b u);
+                })
+
+            new : (j : ℕ) → n ≤ j → j < c → j < length list′ → j * 8 + 8 ≤ length marks₀ → RowMarks w s list′ marks′ j
+            new j a b l r =
+                let z : n + (j - n) ≡ j = omega (arith, a) in
+                let in-rows : j - n < length (leadRows i 0 lead) = omega (arith, noted .count, a, b) in
+                let told : getD list′ j 0 ≡ getD (leadRows i 0 lead) (j - n) 0 =
+                ap (λ (y : List ℕ). getD y j 0) (noted .content) ∙ ap (λ y. getD (sets list n (leadRows i 0 lead)) y 0) (sym z)
+                ∙ sets-in list n (leadRows i 0 lead) (j - n) in-rows (omega (arith, z, l, same-list)) in
+                let place : manyPlace (getD list′ j 0) ≡ i = ap manyPlace told ∙ rows-place i 0 lead (j - n) (omega (arith, lead-few)) in-rows in
+                let is : leadsAt w s (manyPlace (getD list′ j 0)) ≡ lead = rw (place, ← hk, here) in
+                rw is (rows .marks j a b l (omega (arith, r, t .words)))
+
+            pub planning-rows : Planning w many s ends list₀ marks₀ leads′ list′ marks′ c (i + 1)
+            planning-rows = record {
+              held = t .held;
+              known = t .known;
+              listed = t .listed;
+              room = kept ∙ t .room;
+              within = omega arith;
+              small = omega (arith, noted .count, lead-rows-few i 0 lead, lead-few, t .small);
+              long = after-long;
+              rest = rest-rows w many s ks ls list₀ list n i (t .rest) h inside key (labelsOf x) hk here f (by-lead .clash (other many) ∙ rw e) list′ c noted;
+              words = words-after;
+              clean = record { each = λ j a. rows .frame .above j a ∙ t .clean .each j (omega (arith, a, noted .count)) };
+              marked = λ j a l r. cases (ltb j n) (λ y. old j (ltb-true j n y) l r) (λ y. new j (ltb-false j n y) a l r);
+            }

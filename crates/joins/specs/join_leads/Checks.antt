@@ -34,11 +34,11 @@ pub record ClashOf (allowance p : ℕ) (rows leads : List ℕ) (r : Checked) : T
 -- row codes and counts of the many-side place m are small
 pub record CodesFit (m n : ℕ) (leads : List ℕ) : Type 0 where
   pub place : m < maxSeries
-  pub before : n ≤ m * 512
+  pub before : n ≤ m * maxSeries
   pub few : length leads ≤ maxSeries
 
 -- and the code of a one-side place with it
 pub record RowFits (m o n : ℕ) : Type 0 where
   pub many : m < maxSeries
   pub one : o < maxSeries
-  pub before : n ≤ m * 512
+  pub before : n ≤ m * maxSeries

@@ -1,22 +1,33 @@
 -- What writing the readings of an answer series of a join leaves. Assumes nothing.
-use Prim.Native.Nat.{ℕ}
-use mathlib.Core.Path.{_≡_}
+use Prim.Native.Nat.{ℕ, _+_, _*_, _≤_, _<_}
 use mathlib.Core.List.{List}
-use Rattle.model.specs.Reading.{scalarOp}
-use Rattle.model.specs.Row.{twoOverlaps}
-use Rattle.semantics.specs.Binop.{joinRows}
-use Rattle.plan.specs.Merging.{row, mergeLead, rowOf}
+use lib.ListN.{length}
+use Rattle.model.specs.Limits.{maxSeries, maxPoints}
+use Rattle.plan.specs.Merging.{RowMerge, row, failedAt, mergeLead}
+use Rattle.plan.specs.Joins.{manyPlace, onePlace}
+use Rattle.merging.specs.Marks.{leadsMarked}
+use Rattle.side_parts.specs.Sides.{rowAt}
 use Rattle.joins.specs.declared.join_rows.Work.{Work}
-use Rattle.joins.specs.join_rows.Codes.{sideOf}
+use Rattle.joins.specs.Works.{workedRow}
 
--- the operator on a many-side row and a one-side row
-abbrev pub worked : Work → List ℕ → List ℕ → List ℕ
-worked w many one = joinRows (sideOf (w .left)) (scalarOp (w .operator) (w .bool)) many one
+-- the row as merged, up to the first series that fails to merge
+abbrev pub mergedSoFar : RowMerge → List ℕ
+mergedSoFar (row d) = d
+mergedSoFar (failedAt i d) = d
 
--- the row of the leader o with those behind it merged into it
-abbrev pub leadRow : ℕ → List ℕ → List ℕ → ℕ → List ℕ
-leadRow p rows leads o = rowOf (mergeLead twoOverlaps p rows leads o)
+-- the one-side row o, of `count` rows, with those merged into it that are marked behind it
+abbrev pub markedRow : ℕ → ℕ → List ℕ → ℕ → List ℕ → ℕ → List ℕ
+markedRow allowance p rows count marks o = mergedSoFar (mergeLead allowance p rows (leadsMarked marks o 0 count) o)
 
--- those merges succeed
-pub record LeadMerges (p : ℕ) (rows leads : List ℕ) (o : ℕ) : Type 0 where
-  pub merge : mergeLead twoOverlaps p rows leads o ≡ row (leadRow p rows leads o)
+-- the answer row of a row code and the marks behind its leader
+unfoldable pub codeRow : Work → ℕ → List ℕ → List ℕ → ℕ → List ℕ → ℕ → List ℕ
+codeRow w p manyRows rows count marks x =
+    workedRow w (rowAt p manyRows (manyPlace x)) (markedRow (w .allowance) p rows count marks (onePlace x))
+
+-- the two rows of a code are there, and `count` rows of the one side
+pub record RowHeld (p : ℕ) (manyRows rows : List ℕ) (count x : ℕ) : Type 0 where
+  pub manyIn : manyPlace x * p + p ≤ length manyRows
+  pub oneIn : onePlace x < count
+  pub few : count ≤ maxSeries
+  pub held : count * p ≤ length rows
+  pub narrow : p ≤ maxPoints

@@ -10,7 +10,8 @@ use Rattle.kept_labels.proofs.chosen_size.Statement.{statement}
 use Rattle.kept_labels.proofs.chosen_size.Tie as tie
 
 abbrev Inv-loop : tie.InvT-loop
-Inv-loop rec matching list p₀ n₀ tags₀ bytes₀ p n tags bytes = TallyLeft (keyOf (matchingOf matching) (namesOf list)) rec n p tags bytes (recordKey (matchingOf matching) list rec)
+Inv-loop rec matching list p₀ n₀ tags₀ bytes₀ p n tags bytes =
+    TallyLeft (keyOf (matchingOf matching) (namesOf list)) rec n p tags bytes (recordKey (matchingOf matching) list rec)
 
 abbrev μ-loop : tie.MeasureT-loop
 μ-loop rec matching list p₀ n₀ tags₀ bytes₀ p n tags bytes = n

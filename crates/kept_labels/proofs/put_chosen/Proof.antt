@@ -11,7 +11,8 @@ use Rattle.kept_labels.proofs.put_chosen.Statement.{statement}
 use Rattle.kept_labels.proofs.put_chosen.Tie as tie
 
 abbrev Inv-loop : tie.InvT-loop
-Inv-loop out₀ at rec matching list p₀ n₀ o₀ out p n o = PutLeft (keyOf (matchingOf matching) (namesOf list)) rec n p out₀ at (encodeTags (recordKey (matchingOf matching) list rec)) out o
+Inv-loop out₀ at rec matching list p₀ n₀ o₀ out p n o =
+    PutLeft (keyOf (matchingOf matching) (namesOf list)) rec n p out₀ at (encodeTags (recordKey (matchingOf matching) list rec)) out o
 
 abbrev μ-loop : tie.MeasureT-loop
 μ-loop out₀ at rec matching list p₀ n₀ o₀ out p n o = n

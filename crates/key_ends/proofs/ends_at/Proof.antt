@@ -1,6 +1,6 @@
 -- `ends_at` meets its contract. Assumes nothing.
-use Rattle.key_ends.proofs.Tables.{first-fits, ends-fit, ends-told}
 use borrow.Author.Needs.{needs}
+use Rattle.key_ends.proofs.Tables.{first-fine, last-fine, ends-told}
 use Rattle.key_ends.proofs.ends_at.Statement.{statement}
 use Rattle.key_ends.proofs.ends_at.Tie as tie
 
@@ -9,7 +9,6 @@ ends-at-spec =
     tie.close
     (tie.spec
     (λ c κs. search needs)
-    (λ c. search first-fits)
     (λ c κs. search needs)
-    (λ c. search ends-fit)
+    (λ c κs. (search first-fine, search last-fine))
     (λ c. search ends-told))

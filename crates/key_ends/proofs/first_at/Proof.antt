@@ -1,5 +1,5 @@
 -- `first_at` meets its contract. Assumes nothing.
-use Rattle.key_ends.proofs.Tables.{first-table, first-read}
+use Rattle.key_ends.proofs.Tables.{first-table}
 use borrow.Author.Needs.{needs}
 use Rattle.key_ends.proofs.first_at.Statement.{statement}
 use Rattle.key_ends.proofs.first_at.Tie as tie
@@ -12,4 +12,4 @@ first-at-spec =
     (λ c. search needs)
     (λ c. search first-table)
     (λ c κs. search needs)
-    (λ c. search first-read))
+    (λ c. search needs))

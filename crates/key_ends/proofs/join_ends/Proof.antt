@@ -1,14 +1,14 @@
 -- `join_ends` meets its contract. Assumes nothing.
 use Prim.Native.Nat.{_-_}
 use lib.ListN.{length}
-use Rattle.key_ends.proofs.Tables.{Joining, joining-starts, joining-room, joining-scaled, joining-right, joining-fits, joining-turn, joining-ends}
 use borrow.Author.Needs.{needs}
-use native.Mathlib.Omega.{arith}
+use Rattle.key_ends.specs.end_codes.Codes.{pairCode}
+use Rattle.key_ends.proofs.Putting.{Putting, joining-starts, putting-room, putting-long, left-small, right-room, right-small, join-turn, join-put}
 use Rattle.key_ends.proofs.join_ends.Statement.{statement}
 use Rattle.key_ends.proofs.join_ends.Tie as tie
 
 abbrev Inv-loop : tie.InvT-loop
-Inv-loop lkeys rkeys right ends₀ i₀ ends i = Joining lkeys rkeys ends₀ i ends
+Inv-loop lkeys rkeys right ends₀ i₀ ends i = Putting (pairCode lkeys rkeys) lkeys ends₀ i ends
 
 abbrev μ-loop : tie.MeasureT-loop
 μ-loop lkeys rkeys right ends₀ i₀ ends i = length lkeys - i
@@ -21,15 +21,14 @@ join-ends-spec =
     μ-loop
     (λ c. search joining-starts)
     (λ c. search needs)
-    (λ c. search joining-room)
-    (λ c. search joining-scaled)
+    (λ c. search putting-room)
     (λ c. search needs)
-    (λ c. search joining-right)
-    (λ c. search joining-fits)
+    (λ c. search right-room)
+    (λ c κs. (search left-small, search right-small))
     (λ c. search needs)
-    (λ c. search joining-room)
-    (λ c. omega arith)
-    (λ c. omega arith)
-    (λ c. search joining-turn)
-    (λ c. omega arith)
-    (λ c. search joining-ends))
+    (λ c. search putting-room)
+    (λ c. search needs)
+    (λ c. search needs)
+    (λ c. search join-turn)
+    (λ c. search putting-long)
+    (λ c. search join-put))

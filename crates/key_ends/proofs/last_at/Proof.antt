@@ -1,5 +1,5 @@
 -- `last_at` meets its contract. Assumes nothing.
-use Rattle.key_ends.proofs.Tables.{last-table, last-read}
+use Rattle.key_ends.proofs.Tables.{last-table}
 use borrow.Author.Needs.{needs}
 use Rattle.key_ends.proofs.last_at.Statement.{statement}
 use Rattle.key_ends.proofs.last_at.Tie as tie
@@ -12,4 +12,4 @@ last-at-spec =
     (λ c. search needs)
     (λ c. search last-table)
     (λ c κs. search needs)
-    (λ c. search last-read))
+    (λ c. search needs))

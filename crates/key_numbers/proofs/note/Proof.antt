@@ -1,6 +1,6 @@
 -- `key_numbers::note` meets its contract. Assumes nothing.
 use borrow.Author.Needs.{needs}
-use Rattle.key_lookup.proofs.Noting.{place-fits, earlier-fits, note-earlier, note-later}
+use Rattle.key_numbers.proofs.key_lookup.Noting.{place-fits, earlier-fits, note-earlier, note-later}
 use Rattle.key_numbers.proofs.note.Statement.{statement}
 use Rattle.key_numbers.proofs.note.Tie as tie
 

@@ -2,7 +2,7 @@
 use borrow.Author.Needs.{needs}
 use Prim.Native.Nat.{_-_}
 use lib.ListN.{length}
-use Rattle.key_lookup.proofs.Noting.{Noting, noting-starts, noting-size, noting-turn, noting-ends}
+use Rattle.key_numbers.proofs.key_lookup.Noting.{Noting, noting-starts, noting-size, noting-turn, noting-ends}
 use Rattle.key_numbers.proofs.note_hashes.Statement.{statement}
 use Rattle.key_numbers.proofs.note_hashes.Tie as tie
 

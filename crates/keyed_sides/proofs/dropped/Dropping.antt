@@ -35,14 +35,16 @@ module _ (rows : List ℕ) (p : ℕ) (before : List ℕ) where
           let m : suc i * p ≤ length before * p = mul-le-mul-right p (omega (arith, d .long)) in
           omega (arith, m, suc-mul i p)
 
-      drop-step : (v : ℕ) → v ≡ keptNumber (rowAt rows p i) (getD keys i 0) → take (i + 1) (set keys i v) ++ droppedMissing p (drop ((i + 1) * p) rows) (drop (i + 1) (set keys i v)) ≡ take i keys ++ droppedMissing p (drop (i * p) rows) (drop i keys)
+      drop-step : (v : ℕ) → v ≡ keptNumber (rowAt p rows i) (getD keys i 0)
+          → take (i + 1) (set keys i v) ++ droppedMissing p (drop ((i + 1) * p) rows) (drop (i + 1) (set keys i v))
+          ≡ take i keys ++ droppedMissing p (drop (i * p) rows) (drop i keys)
       unfolding droppedMissing
       drop-step v e =
           let lt : i < suc i = le-refl (suc i) in
           let next : drop (suc i * p) rows ≡ drop p (drop (i * p) rows) = ap (λ (n : ℕ). drop n rows) (suc-mul i p) ∙ sym (drop-drop p (i * p) rows) in
           rw (e, add-one, take-suc-set, drop-set-lt, append-snoc, next, drop-cons keys i 0)
 
-      pub drop-turn : (row : List ℕ) → row ≡ rowAt rows p i → (v : ℕ) → v ≡ keptNumber row (getD keys i 0) → Dropping rows p before (set keys i v) (i + 1)
+      pub drop-turn : (row : List ℕ) → row ≡ rowAt p rows i → (v : ℕ) → v ≡ keptNumber row (getD keys i 0) → Dropping rows p before (set keys i v) (i + 1)
       drop-turn row hr v e = record {
         long = simp length-set (d .long);
         within = simp length-set (omega arith);

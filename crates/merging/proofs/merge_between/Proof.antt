@@ -9,7 +9,8 @@ use Rattle.merging.proofs.merge_between.Statement.{statement}
 use Rattle.merging.proofs.merge_between.Tie as tie
 
 abbrev Inv-loop : tie.InvT-loop
-Inv-loop rows groups g from to allowance dst₀ i₀ dst i = Merging-on allowance (length dst₀) rows groups g to i dst (mergeGroup allowance (length dst₀) rows g from (take (to - from) (drop from groups)) dst₀)
+Inv-loop rows groups g from to allowance dst₀ i₀ dst i = Merging-on allowance (length dst₀) rows groups g to i dst
+    (mergeGroup allowance (length dst₀) rows g from (take (to - from) (drop from groups)) dst₀)
 
 abbrev μ-loop : tie.MeasureT-loop
 μ-loop rows groups g from to allowance dst₀ i₀ dst i = to - i

@@ -1,14 +1,14 @@
 -- `merge_last` meets its contract. Assumes nothing.
 use native.Mathlib.Omega.{arith}
 use borrow.Author.Needs.{needs}
-use Rattle.merging.proofs.Groups.{last-told, last-row, last-long, last-before, last-room, last-merged}
+use Rattle.merging.proofs.Groups.{last-row, last-long, last-before, last-room, last-merged}
 use Rattle.merging.proofs.merge_last.Statement.{statement}
 use Rattle.merging.proofs.merge_last.Tie as tie
 
 row-requires : tie.Need-row-requires
 row-requires c κs =
     let start = c .before .before .before .before .before in
-    last-row (start .args .rows .now) (start .args .keys .now) _ (start .pre .1) (start .args .k) (start .pre .0) _ (search last-told)
+    last-row (start .args .rows .now) (start .args .keys .now) _ (start .pre .1) (start .args .k) (start .pre .0) _ (search needs)
 
 pub merge-last-spec : {M : Type 1} → statement M
 merge-last-spec =
@@ -16,7 +16,7 @@ merge-last-spec =
     (tie.spec
     (λ c κs. tt)
     row-requires
-    (λ c κs. search (last-long, last-told))
-    (λ c κs. (omega arith, (search (last-before, last-told), search (last-room, last-told))))
+    (λ c κs. search last-long)
+    (λ c κs. (omega arith, (search last-before, search last-room)))
     (λ c. search needs)
-    (λ c. search (last-merged, last-told)))
+    (λ c. search last-merged))

@@ -1,6 +1,5 @@
 -- `metric_name::tag_state` meets its contract. Assumes nothing.
 use borrow.Author.Needs.{needs}
-use Rattle.metric_name.proofs.Lookups.{present-number, absent-number, cut-number, bad-number}
 use Rattle.metric_name.proofs.Lookups.{present-state, absent-state, cut-state, bad-state}
 use Rattle.metric_name.proofs.tag_state.Statement.{statement}
 use Rattle.metric_name.proofs.tag_state.Tie as tie
@@ -21,16 +20,16 @@ enum-told-4 : tie.Need-enum-told-4
 enum-told-4 c = search needs
 
 returns : tie.Need-returns
-returns c = (search present-state, search present-number)
+returns c = search present-state
 
 returns-2 : tie.Need-returns-2
-returns-2 c = (search absent-state, search absent-number)
+returns-2 c = search absent-state
 
 returns-3 : tie.Need-returns-3
-returns-3 c = (search cut-state, search cut-number)
+returns-3 c = search cut-state
 
 returns-4 : tie.Need-returns-4
-returns-4 c = (search bad-state, search bad-number)
+returns-4 c = search bad-state
 
 pub tag-state-spec : {M : Type 1} → statement M
 tag-state-spec =

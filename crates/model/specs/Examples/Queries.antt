@@ -41,31 +41,64 @@ only-operator : takeQuery (4 ∷ []) ≡ malformed
 unfolding computing
 only-operator = refl
 
-plain : takeQuery (4 ∷ 0 ∷ 0 ∷ 0 ∷ 0 ∷ 0 ∷ []) ≡ query (record { operator = Div; matching = all; join = oneToOne; keepNames = false; bool = false; matchingList = []; joinList = [] })
+plain : takeQuery (4 ∷ 0 ∷ 0 ∷ 0 ∷ 0 ∷ 0 ∷ []) ≡ query
+    (record { operator = Div; matching = all; join = oneToOne; keepNames = false; bool = false; matchingList = []; joinList = [] })
 unfolding computing
 plain = refl
 
 -- / on(press) group_left(form) keeping names, with bool
-whole : takeQuery (4 ∷ 1 ∷ 1 ∷ 3 ∷ 1 ∷ 5 ∷ 112 ∷ 114 ∷ 101 ∷ 115 ∷ 115 ∷ 1 ∷ 4 ∷ 102 ∷ 111 ∷ 114 ∷ 109 ∷ []) ≡ query (record { operator = Div; matching = on; join = (group left); keepNames = true; bool = true; matchingList = ((112 ∷ 114 ∷ 101 ∷ 115 ∷ 115 ∷ []) ∷ []); joinList = ((102 ∷ 111 ∷ 114 ∷ 109 ∷ []) ∷ []) })
+whole : takeQuery (4 ∷ 1 ∷ 1 ∷ 3 ∷ 1 ∷ 5 ∷ 112 ∷ 114 ∷ 101 ∷ 115 ∷ 115 ∷ 1 ∷ 4 ∷ 102 ∷ 111 ∷ 114 ∷ 109 ∷ [])
+    ≡ query (record {
+      operator = Div;
+      matching = on;
+      join = (group left);
+      keepNames = true;
+      bool = true;
+      matchingList =
+          ((112 ∷ 114 ∷ 101 ∷ 115 ∷ 115 ∷ []) ∷ []);
+      joinList = ((102 ∷ 111 ∷ 114 ∷ 109 ∷ []) ∷ []);
+    })
 unfolding computing
 whole = refl
 
-group-right : takeQuery (18 ∷ 2 ∷ 2 ∷ 2 ∷ 1 ∷ 5 ∷ 112 ∷ 114 ∷ 101 ∷ 115 ∷ 115 ∷ 0 ∷ []) ≡ query (record { operator = Unless; matching = ignoring; join = (group right); keepNames = false; bool = true; matchingList = ((112 ∷ 114 ∷ 101 ∷ 115 ∷ 115 ∷ []) ∷ []); joinList = [] })
+group-right : takeQuery (18 ∷ 2 ∷ 2 ∷ 2 ∷ 1 ∷ 5 ∷ 112 ∷ 114 ∷ 101 ∷ 115 ∷ 115 ∷ 0 ∷ [])
+    ≡ query (record {
+      operator = Unless;
+      matching = ignoring;
+      join = (group right);
+      keepNames = false;
+      bool = true;
+      matchingList =
+          ((112 ∷ 114 ∷ 101 ∷ 115 ∷ 115 ∷ []) ∷ []);
+      joinList = [];
+    })
 unfolding computing
 group-right = refl
 
 -- many-to-many is run as one-to-one
-many-to-many : takeQuery (0 ∷ 0 ∷ 3 ∷ 1 ∷ 0 ∷ 0 ∷ []) ≡ query (record { operator = Add; matching = all; join = oneToOne; keepNames = true; bool = false; matchingList = []; joinList = [] })
+many-to-many : takeQuery (0 ∷ 0 ∷ 3 ∷ 1 ∷ 0 ∷ 0 ∷ [])
+    ≡ query (record { operator = Add; matching = all; join = oneToOne; keepNames = true; bool = false; matchingList = []; joinList = [] })
 unfolding computing
 many-to-many = refl
 
 -- an empty `on` list is accepted
-on-nothing : takeQuery (0 ∷ 1 ∷ 0 ∷ 0 ∷ 0 ∷ 0 ∷ []) ≡ query (record { operator = Add; matching = on; join = oneToOne; keepNames = false; bool = false; matchingList = []; joinList = [] })
+on-nothing : takeQuery (0 ∷ 1 ∷ 0 ∷ 0 ∷ 0 ∷ 0 ∷ []) ≡ query
+    (record { operator = Add; matching = on; join = oneToOne; keepNames = false; bool = false; matchingList = []; joinList = [] })
 unfolding computing
 on-nothing = refl
 
 -- repeated and unsorted labels are accepted
-repeated : takeQuery (0 ∷ 1 ∷ 0 ∷ 0 ∷ 3 ∷ 1 ∷ 98 ∷ 1 ∷ 97 ∷ 1 ∷ 98 ∷ 0 ∷ []) ≡ query (record { operator = Add; matching = on; join = oneToOne; keepNames = false; bool = false; matchingList = ((98 ∷ []) ∷ (97 ∷ []) ∷ (98 ∷ []) ∷ []); joinList = [] })
+repeated : takeQuery (0 ∷ 1 ∷ 0 ∷ 0 ∷ 3 ∷ 1 ∷ 98 ∷ 1 ∷ 97 ∷ 1 ∷ 98 ∷ 0 ∷ [])
+    ≡ query (record {
+      operator = Add;
+      matching = on;
+      join = oneToOne;
+      keepNames = false;
+      bool = false;
+      matchingList =
+          ((98 ∷ []) ∷ (97 ∷ []) ∷ (98 ∷ []) ∷ []);
+      joinList = [];
+    })
 unfolding computing
 repeated = refl
 

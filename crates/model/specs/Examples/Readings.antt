@@ -5,7 +5,8 @@ use Rattle.operator.specs.Kinds.{sum, difference, product, quotient, remainder,
 use Rattle.operator.specs.declared.Operator.the-variants.{Add, Div, Eql}
 use Rattle.model.specs.Reading.{missing, noReading, calculated, compared, scalarOp}
 use Rattle.model.specs.Computing.{computing}
-use Rattle.model.specs.Examples.Numbers.{zero, one, two, three, four, five, six, seven, ten, minusZero, minusSix, infinity, minusInfinity, payload, signalling, smallest}
+use Rattle.model.specs.Examples.Numbers.{zero, one, two, three, four, five, six, seven, ten, minusZero, minusSix, infinity, minusInfinity}
+use Rattle.model.specs.Examples.Numbers.{payload, signalling, smallest}
 
 -- any NaN is missing, whatever its sign and payload
 missing-any : missing payload ≡ true

@@ -42,12 +42,14 @@ unfolding computing
 high-bytes = refl
 
 -- the border between a value and the next key counts
-borders-count : sameTags (record { key = (97 ∷ []); value = (120 ∷ []) } ∷ record { key = (98 ∷ []); value = [] } ∷ []) (record { key = (97 ∷ []); value = [] } ∷ record { key = (120 ∷ 98 ∷ []); value = [] } ∷ []) ≡ false
+borders-count : sameTags (record { key = (97 ∷ []); value = (120 ∷ []) } ∷ record { key = (98 ∷ []); value = [] } ∷ [])
+    (record { key = (97 ∷ []); value = [] } ∷ record { key = (120 ∷ 98 ∷ []); value = [] } ∷ []) ≡ false
 unfolding computing
 borders-count = refl
 
 -- fed{press="A"}
-decode-one : decode (3 ∷ 102 ∷ 101 ∷ 100 ∷ 1 ∷ 5 ∷ 112 ∷ 114 ∷ 101 ∷ 115 ∷ 115 ∷ 1 ∷ 65 ∷ []) ≡ decoded (record { name = (102 ∷ 101 ∷ 100 ∷ []); tags = (record { key = (112 ∷ 114 ∷ 101 ∷ 115 ∷ 115 ∷ []); value = (65 ∷ []) } ∷ []) }) []
+decode-one : decode (3 ∷ 102 ∷ 101 ∷ 100 ∷ 1 ∷ 5 ∷ 112 ∷ 114 ∷ 101 ∷ 115 ∷ 115 ∷ 1 ∷ 65 ∷ [])
+    ≡ decoded (record { name = (102 ∷ 101 ∷ 100 ∷ []); tags = (record { key = (112 ∷ 114 ∷ 101 ∷ 115 ∷ 115 ∷ []); value = (65 ∷ []) } ∷ []) }) []
 unfolding computing
 decode-one = refl
 
@@ -56,7 +58,8 @@ decode-rest : decode (0 ∷ 0 ∷ 7 ∷ 8 ∷ []) ≡ decoded (record { name = [
 unfolding computing
 decode-rest = refl
 
-encode-one : encode (record { name = (102 ∷ 101 ∷ 100 ∷ []); tags = (record { key = (112 ∷ 114 ∷ 101 ∷ 115 ∷ 115 ∷ []); value = (65 ∷ []) } ∷ []) }) ≡ (3 ∷ 102 ∷ 101 ∷ 100 ∷ 1 ∷ 5 ∷ 112 ∷ 114 ∷ 101 ∷ 115 ∷ 115 ∷ 1 ∷ 65 ∷ [])
+encode-one : encode (record { name = (102 ∷ 101 ∷ 100 ∷ []); tags = (record { key = (112 ∷ 114 ∷ 101 ∷ 115 ∷ 115 ∷ []); value = (65 ∷ []) } ∷ []) })
+    ≡ (3 ∷ 102 ∷ 101 ∷ 100 ∷ 1 ∷ 5 ∷ 112 ∷ 114 ∷ 101 ∷ 115 ∷ 115 ∷ 1 ∷ 65 ∷ [])
 unfolding computing
 encode-one = refl
 

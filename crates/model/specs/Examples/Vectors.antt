@@ -18,11 +18,34 @@ seriesCount (vector v) = length (v .series)
 seriesCount (faulty n side i) = 1000
 
 -- fed{press="A"} [10,N,6]
-one-series : takeVector 0 (1 ∷ 0 ∷ 3 ∷ 0 ∷ 13 ∷ 0 ∷ 3 ∷ 102 ∷ 101 ∷ 100 ∷ 1 ∷ 5 ∷ 112 ∷ 114 ∷ 101 ∷ 115 ∷ 115 ∷ 1 ∷ 65 ∷ []) (ten ∷ noReading ∷ six ∷ []) ≡ vector (record { shape = record { points = 3 }; series = (record { labels = (record { name = (102 ∷ 101 ∷ 100 ∷ []); tags = (record { key = (112 ∷ 114 ∷ 101 ∷ 115 ∷ 115 ∷ []); value = (65 ∷ []) } ∷ []) }); row = (ten ∷ noReading ∷ six ∷ []) } ∷ []) })
+one-series : takeVector 0 (1 ∷ 0 ∷ 3 ∷ 0 ∷ 13 ∷ 0 ∷ 3 ∷ 102 ∷ 101 ∷ 100 ∷ 1 ∷ 5 ∷ 112 ∷ 114 ∷ 101 ∷ 115 ∷ 115 ∷ 1 ∷ 65 ∷ [])
+    (ten ∷ noReading ∷ six ∷ []) ≡ vector
+    (record {
+      shape = record { points = 3 };
+      series =
+          (record {
+            labels = (record {
+              name = (102 ∷ 101 ∷ 100 ∷ []);
+              tags =
+                  (record { key = (112 ∷ 114 ∷ 101 ∷ 115 ∷ 115 ∷ []); value = (65 ∷ []) } ∷ []);
+            });
+            row = (ten ∷ noReading ∷ six ∷ []);
+          } ∷ []);
+    })
 unfolding computing
 one-series = refl
 
-two-series : takeVector 1 (2 ∷ 0 ∷ 1 ∷ 0 ∷ 15 ∷ 0 ∷ 0 ∷ 0 ∷ 3 ∷ 102 ∷ 101 ∷ 100 ∷ 1 ∷ 5 ∷ 112 ∷ 114 ∷ 101 ∷ 115 ∷ 115 ∷ 1 ∷ 65 ∷ []) (one ∷ two ∷ []) ≡ vector (record { shape = record { points = 1 }; series = (record { labels = (record { name = []; tags = [] }); row = (one ∷ []) } ∷ record { labels = (record { name = (102 ∷ 101 ∷ 100 ∷ []); tags = (record { key = (112 ∷ 114 ∷ 101 ∷ 115 ∷ 115 ∷ []); value = (65 ∷ []) } ∷ []) }); row = (two ∷ []) } ∷ []) })
+two-series : takeVector 1 (2 ∷ 0 ∷ 1 ∷ 0 ∷ 15 ∷ 0 ∷ 0 ∷ 0 ∷ 3 ∷ 102 ∷ 101 ∷ 100 ∷ 1 ∷ 5 ∷ 112 ∷ 114 ∷ 101 ∷ 115 ∷ 115 ∷ 1 ∷ 65 ∷ []) (one ∷ two ∷ [])
+    ≡ vector (record {
+      shape = record { points = 1 };
+      series =
+          (record { labels = (record { name = []; tags = [] }); row = (one ∷ []) } ∷ record {
+            labels =
+                (record { name = (102 ∷ 101 ∷ 100 ∷ []); tags = (record { key = (112 ∷ 114 ∷ 101 ∷ 115 ∷ 115 ∷ []); value = (65 ∷ []) } ∷ []) });
+            row =
+                (two ∷ []);
+          } ∷ []);
+    })
 unfolding computing
 two-series = refl
 
@@ -31,11 +54,21 @@ no-series : takeVector 0 (0 ∷ 0 ∷ 7 ∷ 0 ∷ 0 ∷ 0 ∷ []) [] ≡ vector 
 unfolding computing
 no-series = refl
 
-no-points : takeVector 0 (1 ∷ 0 ∷ 0 ∷ 0 ∷ 2 ∷ 0 ∷ 0 ∷ 0 ∷ []) [] ≡ vector (record { shape = record { points = 0 }; series = (record { labels = (record { name = []; tags = [] }); row = [] } ∷ []) })
+no-points : takeVector 0 (1 ∷ 0 ∷ 0 ∷ 0 ∷ 2 ∷ 0 ∷ 0 ∷ 0 ∷ []) []
+    ≡ vector (record { shape = record { points = 0 }; series = (record { labels = (record { name = []; tags = [] }); row = [] } ∷ []) })
 unfolding computing
 no-points = refl
 
-encoded : labelPart (record { points = 3 }) (record { labels = (record { name = (102 ∷ 101 ∷ 100 ∷ []); tags = (record { key = (112 ∷ 114 ∷ 101 ∷ 115 ∷ 115 ∷ []); value = (65 ∷ []) } ∷ []) }); row = [] } ∷ []) ≡ (1 ∷ 0 ∷ 3 ∷ 0 ∷ 13 ∷ 0 ∷ 3 ∷ 102 ∷ 101 ∷ 100 ∷ 1 ∷ 5 ∷ 112 ∷ 114 ∷ 101 ∷ 115 ∷ 115 ∷ 1 ∷ 65 ∷ [])
+encoded : labelPart (record { points = 3 })
+    (record {
+      labels = (record {
+        name = (102 ∷ 101 ∷ 100 ∷ []);
+        tags =
+            (record { key = (112 ∷ 114 ∷ 101 ∷ 115 ∷ 115 ∷ []); value = (65 ∷ []) } ∷ []);
+      });
+      row = [];
+    } ∷ [])
+    ≡ (1 ∷ 0 ∷ 3 ∷ 0 ∷ 13 ∷ 0 ∷ 3 ∷ 102 ∷ 101 ∷ 100 ∷ 1 ∷ 5 ∷ 112 ∷ 114 ∷ 101 ∷ 115 ∷ 115 ∷ 1 ∷ 65 ∷ [])
 unfolding computing
 encoded = refl
 
@@ -94,7 +127,8 @@ unfolding computing
 bad-before-left-over = refl
 
 -- readings not n times p
-readings-short : takeVector 0 (2 ∷ 0 ∷ 2 ∷ 0 ∷ 15 ∷ 0 ∷ 0 ∷ 0 ∷ 3 ∷ 102 ∷ 101 ∷ 100 ∷ 1 ∷ 5 ∷ 112 ∷ 114 ∷ 101 ∷ 115 ∷ 115 ∷ 1 ∷ 65 ∷ []) (one ∷ two ∷ one ∷ []) ≡ faulty 5 0 0
+readings-short : takeVector 0 (2 ∷ 0 ∷ 2 ∷ 0 ∷ 15 ∷ 0 ∷ 0 ∷ 0 ∷ 3 ∷ 102 ∷ 101 ∷ 100 ∷ 1 ∷ 5 ∷ 112 ∷ 114 ∷ 101 ∷ 115 ∷ 115 ∷ 1 ∷ 65 ∷ [])
+    (one ∷ two ∷ one ∷ []) ≡ faulty 5 0 0
 unfolding computing
 readings-short = refl
 

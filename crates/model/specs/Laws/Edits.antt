@@ -6,7 +6,8 @@ use mathlib.Core.List.{List, [], _∷_}
 use native.Mathlib.Omega.{arith}
 use Rattle.model.specs.Lists.{cases, keep, All}
 use Rattle.model.specs.Labels.{Tag, Labels, sameBytes, below, nameLabel, mayFollow, ascending, valueOf, GoodField, GoodTag, WellFormed}
-use Rattle.model.specs.Edits.{Names, isListed, tagsOn, tagsIgnoring, removeTagsOn, removeTagsIgnoring, insertTag, withoutTag, setOrRemove, setLabel, setListed, copyTags, isStar, setTags, clearNameIf}
+use Rattle.model.specs.Edits.{Names, isListed, tagsOn, tagsIgnoring, removeTagsOn, removeTagsIgnoring, insertTag, withoutTag, setOrRemove}
+use Rattle.model.specs.Edits.{setLabel, setListed, copyTags, isStar, setTags, clearNameIf}
 use Rattle.model.specs.Query.{Matching, all, on, ignoring, keyOf}
 use Rattle.model.specs.Laws.Lists.{All-keep}
 use Rattle.model.specs.Laws.Booleans.{both-of}
@@ -51,8 +52,14 @@ insert-good t ts h g = record { each = insert-each GoodTag t ts (h .tag) (g .eac
 
 uncons-good : (t : Tag) (ts : List Tag) → GoodTags (t ∷ ts) → GoodFirst t × GoodTags ts
 uncons-good t ts g =
-    let h = ascending-tail [] t ts (g .order) in
-    (record { tag = g .each .0; first = h .0 }, record { each = g .each .1; order = ascending-lower [] (t .key) ts (both-of (below [] (t .key)) (not (sameBytes (t .key) nameLabel)) (h .0) .0) (h .1) })
+    let h = ascending-tail [] t ts (g .order) in (
+      record { tag = g .each .0; first = h .0 },
+      record {
+        each = g .each .1;
+        order = ascending-lower [] (t .key) ts
+            (both-of (below [] (t .key)) (not (sameBytes (t .key) nameLabel)) (h .0) .0) (h .1);
+      },
+    )
 
 pub on-good : (ns : Names) (ts : List Tag) → GoodTags ts → GoodTags (tagsOn ns ts)
 unfolding tagsOn
@@ -116,7 +123,8 @@ listed-well : (skip : Names) (source : Labels) (ks : Names) (l : Labels) → Wel
 unfolding setListed
 listed-well skip source [] l h w = w
 listed-well skip source (k ∷ ks) l h w =
-    listed-well skip source ks (cond (isListed skip k) l (setLabel source k l)) h (cond-well (isListed skip k) l (setLabel source k l) w (label-well source k l h w))
+    listed-well skip source ks (cond (isListed skip k) l (setLabel source k l)) h
+    (cond-well (isListed skip k) l (setLabel source k l) w (label-well source k l h w))
 
 pub set-tags-well : (ks skip : Names) (source l : Labels) → WellFormed source → WellFormed l → WellFormed (setTags ks skip source l)
 unfolding setTags

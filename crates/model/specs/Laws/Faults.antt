@@ -6,10 +6,11 @@ use mathlib.Core.List.{List, [], _∷_}
 use native.Mathlib.Omega.{arith}
 use lib.Dec.{leb, eqb}
 use lib.ListN.{length, drop}
-use Rattle.model.specs.Limits.{maxSeries, maxPoints}
+use Rattle.model.specs.Limits.{maxSeries, maxPoints, sizesLength}
 use Rattle.model.specs.Labels.{Labels}
 use Rattle.model.specs.Record.{Decoded, decoded, cut, badKey, decode}
-use Rattle.model.specs.Vector.{Shape, Vector, TakenVector, vector, faulty, Records, records, badRecord, withRecord, onDecoded, recordsIn, seriesOf, withReadings, withSizes, twoBytesAt, takeVector}
+use Rattle.model.specs.Vector.{Shape, Vector, TakenVector, vector, faulty, Records, records, badRecord, withRecord, onDecoded, recordsIn}
+use Rattle.model.specs.Vector.{seriesOf, withReadings, withSizes, twoBytesAt, takeVector}
 
 not-bad : {X : Type 0} (ls : List Labels) (k i : ℕ) → records ls ≡ badRecord k i → X
 not-bad ls k i e = absurd (let z : _≡_ {A = ℕ} 0 1 = cc in omega arith)
@@ -29,7 +30,8 @@ bad-number (suc n) i s k j e = go (bad-number n (suc i)) (decode s) e
     last l (records ls) ih e = not-bad (l ∷ ls) k j e
     last l (badRecord m o) ih e = ih e
 
-    go : ((s : List ℕ) (k j : ℕ) → recordsIn n (suc i) s ≡ badRecord k j → RecordFault k) → (d : Decoded) → onDecoded i d (recordsIn n (suc i)) ≡ badRecord k j → RecordFault k
+    go : ((s : List ℕ) (k j : ℕ) → recordsIn n (suc i) s ≡ badRecord k j → RecordFault k) → (d : Decoded)
+        → onDecoded i d (recordsIn n (suc i)) ≡ badRecord k j → RecordFault k
     go ih (decoded l rest) e = last l (recordsIn n (suc i) rest) (ih rest k j) e
     go ih cut e = three (let z : 3 ≡ k = cc in sym z)
     go ih badKey e = four (let z : 4 ≡ k = cc in sym z)
@@ -53,9 +55,11 @@ unfolding takeVector
 take-side side other s x =
     let n = twoBytesAt s 0 in
     let shape : Shape = record { points = twoBytesAt s 2 } in
-    let good = leb n maxSeries && (leb (shape .points) maxPoints && eqb (length (drop 6 s)) (twoBytesAt s 4)) in
-    let sized = cond-side good side (withReadings other n shape x (recordsIn n 0 (drop 6 s))) (faulty 3 other 0) ∙ ap (λ (t : TakenVector). cond good t (faulty 3 side 0)) (readings-side side other n shape x (recordsIn n 0 (drop 6 s))) in
-    sym (cond-side (leb 6 (length s)) side (withSizes other n shape (twoBytesAt s 4) (drop 6 s) x) (faulty 3 other 0) ∙ ap (λ (t : TakenVector). cond (leb 6 (length s)) t (faulty 3 side 0)) sized)
+    let good = leb n maxSeries && (leb (shape .points) maxPoints && eqb (length (drop sizesLength s)) (twoBytesAt s 4)) in
+    let sized = cond-side good side (withReadings other n shape x (recordsIn n 0 (drop sizesLength s))) (faulty 3 other 0)
+    ∙ ap (λ (t : TakenVector). cond good t (faulty 3 side 0)) (readings-side side other n shape x (recordsIn n 0 (drop sizesLength s))) in
+    sym (cond-side (leb sizesLength (length s)) side (withSizes other n shape (twoBytesAt s 4) (drop sizesLength s) x) (faulty 3 other 0)
+    ∙ ap (λ (t : TakenVector). cond (leb sizesLength (length s)) t (faulty 3 side 0)) sized)
 
 -- a fault has 01's numbers; number 5 has the place 0
 
@@ -70,7 +74,8 @@ fault-three side other k i j e = cutFault (let z : 3 ≡ k = cc in sym z)
 not-faulty : {X : Type 0} (v : Vector) (k side i : ℕ) → vector v ≡ faulty k side i → X
 not-faulty v k side i e = absurd (let z : _≡_ {A = ℕ} 0 1 = cc in omega arith)
 
-readings-fault : (side other n : ℕ) (shape : Shape) (s x : List ℕ) (k i : ℕ) (o : Records) → recordsIn n 0 s ≡ o → withReadings side n shape x o ≡ faulty k other i → Fault k i
+readings-fault : (side other n : ℕ) (shape : Shape) (s x : List ℕ) (k i : ℕ) (o : Records) → recordsIn n 0 s ≡ o
+    → withReadings side n shape x o ≡ faulty k other i → Fault k i
 readings-fault side other n shape s x k i (records ls) f e = go (eqb (length x) (n * shape .points)) e
   where
     go : (b : Bool) → cond b (vector (record { shape = shape; series = seriesOf (shape .points) ls x })) (faulty 5 side 0) ≡ faulty k other i → Fault k i
@@ -87,7 +92,7 @@ readings-fault side other n shape s x k i (badRecord m j) f e = go (bad-number n
 
 pub take-fault : (side other : ℕ) (s x : List ℕ) (k i : ℕ) → takeVector side s x ≡ faulty k other i → Fault k i
 unfolding takeVector
-take-fault side other s x k i e = go (leb 6 (length s)) e
+take-fault side other s x k i e = go (leb sizesLength (length s)) e
   where
     n : ℕ
     n = twoBytesAt s 0
@@ -95,12 +100,12 @@ take-fault side other s x k i e = go (leb 6 (length s)) e
     shape : Shape
     shape = record { points = twoBytesAt s 2 }
 
-    sized : (b : Bool) → cond b (withReadings side n shape x (recordsIn n 0 (drop 6 s))) (faulty 3 side 0) ≡ faulty k other i → Fault k i
-    sized true e = readings-fault side other n shape (drop 6 s) x k i (recordsIn n 0 (drop 6 s)) refl e
+    sized : (b : Bool) → cond b (withReadings side n shape x (recordsIn n 0 (drop sizesLength s))) (faulty 3 side 0) ≡ faulty k other i → Fault k i
+    sized true e = readings-fault side other n shape (drop sizesLength s) x k i (recordsIn n 0 (drop sizesLength s)) refl e
     sized false e = fault-three side other k i 0 e
 
-    go : (b : Bool) → cond b (withSizes side n shape (twoBytesAt s 4) (drop 6 s) x) (faulty 3 side 0) ≡ faulty k other i → Fault k i
-    go true e = sized (leb n maxSeries && (leb (shape .points) maxPoints && eqb (length (drop 6 s)) (twoBytesAt s 4))) e
+    go : (b : Bool) → cond b (withSizes side n shape (twoBytesAt s 4) (drop sizesLength s) x) (faulty 3 side 0) ≡ faulty k other i → Fault k i
+    go true e = sized (leb n maxSeries && (leb (shape .points) maxPoints && eqb (length (drop sizesLength s)) (twoBytesAt s 4))) e
     go false e = fault-three side other k i 0 e
 
 -- of the vector on a side: its number is 3 to 5, and it names the side

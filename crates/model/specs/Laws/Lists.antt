@@ -1,10 +1,10 @@
 -- Laws of lists: what passes a test, what each element gives, what holds of each. Assumes nothing.
-use Prim.Native.Nat.{ℕ, suc, _+_, _≤_}
+use Prim.Native.Nat.{ℕ, zero, suc, _+_, _≤_, _<_}
 use mathlib.Core.Path.{_≡_, refl, sym}
 use mathlib.Core.Bool.{Bool, true}
 use mathlib.Core.List.{List, [], _∷_, _++_, map, append-assoc}
 use native.Mathlib.Omega.{arith}
-use lib.ListN.{length, take, set}
+use lib.ListN.{length, getD, take, set}
 use lib.Seq.{sets, length-take-le}
 use Rattle.model.specs.Lists.{cases, keep, All, gather}
 
@@ -110,6 +110,11 @@ module _ {A : Type 0} where
 pub All-gather : {A B : Type 0} (P : B → Type 0) (f : A → List B) (xs : List A) → All (λ x. All P (f x)) xs → All P (gather f xs)
 All-gather P f [] a = tt
 All-gather P f (x ∷ xs) a = All-append P (f x) (gather f xs) (a .0) (All-gather P f xs (a .1))
+
+pub map-at : {A B : Type 0} (f : A → B) (xs : List A) (i : ℕ) (d : A) (e : B) → i < length xs → getD (map f xs) i e ≡ f (getD xs i d)
+map-at f [] i d e h = absurd (omega arith)
+map-at f (x ∷ xs) zero d e h = refl
+map-at f (x ∷ xs) (suc i) d e h = map-at f xs i d e (omega arith)
 
 -- numbers: a front has its length, and what is stored one behind another may be stored in two goes
 

@@ -37,7 +37,8 @@ below-trans (x ∷ xs) [] c h k = never h
 below-trans (x ∷ xs) (y ∷ ys) [] h k = never k
 below-trans (x ∷ xs) (y ∷ ys) (z ∷ zs) h k = go (below-trans xs ys zs) (low x y (below xs ys) h) (low y z (below ys zs) k)
   where
-    go : (below xs ys ≡ true → below ys zs ≡ true → below xs zs ≡ true) → Low x y (below xs ys) → Low y z (below ys zs) → (ltb x z || (eqb x z && below xs zs)) ≡ true
+    go : (below xs ys ≡ true → below ys zs ≡ true → below xs zs ≡ true) → Low x y (below xs ys) → Low y z (below ys zs)
+        → (ltb x z || (eqb x z && below xs zs)) ≡ true
     go ih (less h) (less k) = high x z (below xs zs) (less (omega (arith, h, k)))
     go ih (less h) (level e r) = high x z (below xs zs) (less (omega (arith, h, e)))
     go ih (level e r) (less k) = high x z (below xs zs) (less (omega (arith, e, k)))
@@ -65,7 +66,8 @@ same-is (x ∷ xs) [] e = never e
 same-is (x ∷ xs) (y ∷ ys) e = let h = both-of (eqb x y) (sameBytes xs ys) e in cc (eqb-true x y (h .0), same-is xs ys (h .1))
 
 pub follow-lower : (p q k : List ℕ) → below p q ≡ true → mayFollow q k ≡ true → mayFollow p k ≡ true
-follow-lower p q k h f = let g = both-of (below q k) (not (sameBytes k nameLabel)) f in both-so (below p k) (not (sameBytes k nameLabel)) (below-trans p q k h (g .0)) (g .1)
+follow-lower p q k h f = let g = both-of (below q k) (not (sameBytes k nameLabel)) f in both-so (below p k) (not (sameBytes k nameLabel))
+    (below-trans p q k h (g .0)) (g .1)
 
 pub ascending-lower : (p q : List ℕ) (ts : List Tag) → below p q ≡ true → ascending q ts ≡ true → ascending p ts ≡ true
 unfolding ascending
@@ -96,7 +98,8 @@ insert-ascending t p (u ∷ us) h a =
     (λ f. rw (e, f) (both-so (mayFollow p (t .key)) (mayFollow (t .key) (u .key) && ascending (u .key) us) h
     (both-so (mayFollow (t .key) (u .key)) (ascending (u .key) us) (both-so (below (t .key) (u .key)) (not (sameBytes (u .key) nameLabel)) f (hu .1)) (g .1))))
     (λ f. rw (e, f) (both-so (mayFollow p (u .key)) (ascending (u .key) (insertTag t us)) (g .0)
-    (insert-ascending t (u .key) us (both-so (below (u .key) (t .key)) (not (sameBytes (t .key) nameLabel)) (below-other (t .key) (u .key) e f) (ht .1)) (g .1)))))
+    (insert-ascending t (u .key) us
+    (both-so (below (u .key) (t .key)) (not (sameBytes (t .key) nameLabel)) (below-other (t .key) (u .key) e f) (ht .1)) (g .1)))))
 
 pub same-refl : (a : List ℕ) → sameBytes a a ≡ true
 unfolding sameBytes

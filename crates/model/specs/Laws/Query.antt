@@ -14,7 +14,8 @@ use Rattle.model.specs.Limits.{maxListed}
 use Rattle.model.specs.Lists.{All, isEmpty}
 use Rattle.model.specs.Record.{Field, short, field, readField, onField, encodeField}
 use Rattle.model.specs.Edits.{Names}
-use Rattle.model.specs.Query.{Query, query, badOperator, malformed, Listed, notListed, listed, withName, namesIn, listIn, onListed, fitting, ended, queryOf, withLists, modified, asked, takeQuery}
+use Rattle.model.specs.Query.{Query, query, badOperator, malformed, Listed, notListed, listed, withName, namesIn, listIn, onListed, fitting}
+use Rattle.model.specs.Query.{ended, queryOf, withLists, modified, asked, takeQuery}
 use Rattle.model.specs.Laws.Booleans.{never, both-of}
 use Rattle.model.specs.Laws.Record.{read-field, field-read}
 
@@ -57,13 +58,19 @@ names-are (suc n) s ns rest e = go (names-are n) (readField s) refl e
     Shorter : Type 0
     Shorter = (s : List ℕ) (ns : Names) (rest : List ℕ) → namesIn n s ≡ listed ns rest → NamesAre n s ns rest
 
-    last : Shorter → (x : ℕ) (xs s₁ : List ℕ) → s ≡ encodeField (x ∷ xs) ++ s₁ → (l : Listed) → namesIn n s₁ ≡ l → withName (x ∷ xs) l ≡ listed ns rest → NamesAre (suc n) s ns rest
+    last : Shorter → (x : ℕ) (xs s₁ : List ℕ) → s ≡ encodeField (x ∷ xs) ++ s₁ → (l : Listed) → namesIn n s₁ ≡ l
+        → withName (x ∷ xs) l ≡ listed ns rest → NamesAre (suc n) s ns rest
     last ih x xs s₁ h notListed g e = not-listed ns rest e
     last ih x xs s₁ h (listed ms r) g e =
         let below = ih s₁ ms r g in
         let hns : ns ≡ (x ∷ xs) ∷ ms = cc in
         let hr : rest ≡ r = cc in
-        rw (hns, hr) (record { count = ap suc (below .count); each = (refl, below .each); bytes = h ∙ ap (λ t. encodeField (x ∷ xs) ++ t) (below .bytes) ∙ sym (append-assoc (encodeField (x ∷ xs)) (encodeNames ms) r) })
+        rw (hns, hr) (record {
+          count = ap suc (below .count);
+          each = (refl, below .each);
+          bytes = h
+              ∙ ap (λ t. encodeField (x ∷ xs) ++ t) (below .bytes) ∙ sym (append-assoc (encodeField (x ∷ xs)) (encodeNames ms) r);
+        })
 
     named : Shorter → (x s₁ : List ℕ) → s ≡ encodeField x ++ s₁ → withName x (namesIn n s₁) ≡ listed ns rest → NamesAre (suc n) s ns rest
     named ih [] s₁ h e = not-listed ns rest e
@@ -146,7 +153,8 @@ not-unknown q e = absurd (let z : _≡_ {A = ℕ} 0 1 = cc in omega arith)
 query-is : (q r : Query) → query q ≡ query r → q ≡ r
 query-is q r e = cc
 
-module _ (n m j f : ℕ) (o : Operator) (s : List ℕ) (q : Query) (known : operatorOf n ≡ some o) (carried : isCarried o ≡ true) (hm : m ≤ 2) (hj : j ≤ 3) (hf : f ≤ 3) where
+module _ (n m j f : ℕ) (o : Operator) (s : List ℕ) (q : Query) (known : operatorOf n ≡ some o) (carried : isCarried o ≡ true) (hm : m ≤ 2)
+    (hj : j ≤ 3) (hf : f ≤ 3) where
   Taken : Type 0
   Taken = QueryIs (n ∷ m ∷ j ∷ f ∷ s) q
 
@@ -169,16 +177,19 @@ module _ (n m j f : ℕ) (o : Operator) (s : List ℕ) (q : Query) (known : oper
         is = sym (query-is (queryOf o m j f ns js) q e);
       }
 
-  taken-second : (ns : Names) (s₁ : List ℕ) → ListIs s ns s₁ → (l : Listed) → listIn s₁ ≡ l → onListed l malformed (λ js s₂. ended (queryOf o m j f ns js) s₂) ≡ query q → Taken
+  taken-second : (ns : Names) (s₁ : List ℕ) → ListIs s ns s₁ → (l : Listed) → listIn s₁ ≡ l
+      → onListed l malformed (λ js s₂. ended (queryOf o m j f ns js) s₂) ≡ query q → Taken
   taken-second ns s₁ h notListed g e = not-malformed q e
   taken-second ns s₁ h (listed js rest) g e = taken-end ns js s₁ rest h (list-is s₁ js rest g) _ refl e
 
-  taken-first : (l : Listed) → listIn s ≡ l → onListed l malformed (λ ns s₁. onListed (listIn s₁) malformed (λ js s₂. ended (queryOf o m j f ns js) s₂)) ≡ query q → Taken
+  taken-first : (l : Listed) → listIn s ≡ l → onListed l malformed
+      (λ ns s₁. onListed (listIn s₁) malformed (λ js s₂. ended (queryOf o m j f ns js) s₂)) ≡ query q → Taken
   taken-first notListed h e = not-malformed q e
   taken-first (listed ns s₁) h e = taken-second ns s₁ (list-is s ns s₁ h) (listIn s₁) refl e
 
 module _ (n : ℕ) (o : Operator) (q : Query) (known : operatorOf n ≡ some o) (carried : isCarried o ≡ true) where
-  taken-bytes : (m j f : ℕ) (s : List ℕ) (t : Bool) → (leb m 2 && (leb j 3 && leb f 3)) ≡ t → cond t (withLists o m j f s) malformed ≡ query q → QueryIs (n ∷ m ∷ j ∷ f ∷ s) q
+  taken-bytes : (m j f : ℕ) (s : List ℕ) (t : Bool) → (leb m 2 && (leb j 3 && leb f 3)) ≡ t → cond t (withLists o m j f s) malformed ≡ query q
+      → QueryIs (n ∷ m ∷ j ∷ f ∷ s) q
   unfolding Taken
   taken-bytes m j f s false h e = not-malformed q e
   taken-bytes m j f s true h e =

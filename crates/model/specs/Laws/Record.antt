@@ -11,7 +11,8 @@ use borrow.Author.Tests.{le-leb, leb-true}
 use Rattle.model.specs.Lists.{All}
 use Rattle.model.specs.Limits.{maxTags}
 use Rattle.model.specs.Labels.{Tag, Labels, ascending, Bytes, GoodField, GoodTag, WellFormed}
-use Rattle.model.specs.Record.{Field, short, field, readField, onField, RawTags, cutTags, rawTags, withTag, decodeTags, decoded, cut, badKey, judged, decodeCounted, decode, encodeField, encodeTags, encode}
+use Rattle.model.specs.Record.{Field, short, field, readField, onField, RawTags, cutTags, rawTags, withTag, decodeTags, decoded, cut, badKey}
+use Rattle.model.specs.Record.{judged, decodeCounted, decode, encodeField, encodeTags, encode}
 use Rattle.model.specs.Laws.Lists.{All-append, All-front, All-back}
 
 -- a field that was written is read
@@ -66,7 +67,8 @@ tags-read (suc n) s ts r e = go (tags-read n) (readField s) refl e
     Shorter : Type 0
     Shorter = (s : List ℕ) (ts : List Tag) (r : List ℕ) → decodeTags n s ≡ rawTags ts r → TagsAre n s ts r
 
-    last : Shorter → (k v s₁ s₂ : List ℕ) → s ≡ encodeField k ++ s₁ → s₁ ≡ encodeField v ++ s₂ → (w : RawTags) → decodeTags n s₂ ≡ w → withTag k v w ≡ rawTags ts r → TagsAre (suc n) s ts r
+    last : Shorter → (k v s₁ s₂ : List ℕ) → s ≡ encodeField k ++ s₁ → s₁ ≡ encodeField v ++ s₂ → (w : RawTags) → decodeTags n s₂ ≡ w
+        → withTag k v w ≡ rawTags ts r → TagsAre (suc n) s ts r
     last ih k v s₁ s₂ hk hv cutTags h e = absurd (cut-rawTags ts r e)
     last ih k v s₁ s₂ hk hv (rawTags us q) h e =
         let below = ih s₂ us q h in
@@ -77,11 +79,13 @@ tags-read (suc n) s ts r e = go (tags-read n) (readField s) refl e
           bytes = rw (hts, hr, hk, hv, below .bytes, tags-cons);
         }
 
-    go₂ : Shorter → (k s₁ : List ℕ) → s ≡ encodeField k ++ s₁ → (f : Field) → readField s₁ ≡ f → onField f cutTags (λ v s₂. withTag k v (decodeTags n s₂)) ≡ rawTags ts r → TagsAre (suc n) s ts r
+    go₂ : Shorter → (k s₁ : List ℕ) → s ≡ encodeField k ++ s₁ → (f : Field) → readField s₁ ≡ f
+        → onField f cutTags (λ v s₂. withTag k v (decodeTags n s₂)) ≡ rawTags ts r → TagsAre (suc n) s ts r
     go₂ ih k s₁ hk short h e = absurd (cut-rawTags ts r e)
     go₂ ih k s₁ hk (field v s₂) h e = last ih k v s₁ s₂ hk (field-read s₁ v s₂ h) (decodeTags n s₂) refl e
 
-    go : Shorter → (f : Field) → readField s ≡ f → onField f cutTags (λ k s₁. onField (readField s₁) cutTags (λ v s₂. withTag k v (decodeTags n s₂))) ≡ rawTags ts r → TagsAre (suc n) s ts r
+    go : Shorter → (f : Field) → readField s ≡ f → onField f cutTags (λ k s₁. onField (readField s₁) cutTags (λ v s₂. withTag k v (decodeTags n s₂)))
+        ≡ rawTags ts r → TagsAre (suc n) s ts r
     go ih short h e = absurd (cut-rawTags ts r e)
     go ih (field k s₁) h e = go₂ ih k s₁ (field-read s k s₁ h) (readField s₁) refl e
 
@@ -104,7 +108,9 @@ decode-is s l r e = go (readField s) refl e
     not-badKey : badKey ≡ decoded l r → ⊥
     not-badKey e = let z : _≡_ {A = ℕ} 0 1 = cc in omega arith
 
-    last : (x s₁ : List ℕ) (n : ℕ) (ts : List Tag) (q : List ℕ) → s ≡ encodeField x ++ (n ∷ s₁) → leb n maxTags ≡ true → decodeTags n s₁ ≡ rawTags ts q → (b : Bool) → ascending [] ts ≡ b → cond b (decoded (record { name = x; tags = ts }) q) badKey ≡ decoded l r → RecordOf s l r
+    last : (x s₁ : List ℕ) (n : ℕ) (ts : List Tag) (q : List ℕ) → s ≡ encodeField x ++ (n ∷ s₁) → leb n maxTags ≡ true
+        → decodeTags n s₁ ≡ rawTags ts q → (b : Bool) → ascending [] ts ≡ b → cond b (decoded (record { name = x; tags = ts }) q) badKey ≡ decoded l r
+        → RecordOf s l r
     last x s₁ n ts q hs hn ht false ha e = absurd (not-badKey e)
     last x s₁ n ts q hs hn ht true ha e =
         let t = tags-read n s₁ ts q ht in
@@ -112,11 +118,13 @@ decode-is s l r e = go (readField s) refl e
         let hr : r ≡ q = cc in
         rw hl (record { few = omega (arith, t .count, leb-true n maxTags hn); order = ha; bytes = rw (encode-split, hs, hr, t .bytes, ← t .count) })
 
-    go₃ : (x s₁ : List ℕ) (n : ℕ) → s ≡ encodeField x ++ (n ∷ s₁) → leb n maxTags ≡ true → (w : RawTags) → decodeTags n s₁ ≡ w → judged x w ≡ decoded l r → RecordOf s l r
+    go₃ : (x s₁ : List ℕ) (n : ℕ) → s ≡ encodeField x ++ (n ∷ s₁) → leb n maxTags ≡ true → (w : RawTags) → decodeTags n s₁ ≡ w
+        → judged x w ≡ decoded l r → RecordOf s l r
     go₃ x s₁ n hs hn cutTags ht e = absurd (not-cut e)
     go₃ x s₁ n hs hn (rawTags ts q) ht e = last x s₁ n ts q hs hn ht (ascending [] ts) refl e
 
-    go₂ : (x s₁ : List ℕ) (n : ℕ) → s ≡ encodeField x ++ (n ∷ s₁) → (b : Bool) → leb n maxTags ≡ b → cond b (judged x (decodeTags n s₁)) cut ≡ decoded l r → RecordOf s l r
+    go₂ : (x s₁ : List ℕ) (n : ℕ) → s ≡ encodeField x ++ (n ∷ s₁) → (b : Bool) → leb n maxTags ≡ b
+        → cond b (judged x (decodeTags n s₁)) cut ≡ decoded l r → RecordOf s l r
     go₂ x s₁ n hs true hn e = go₃ x s₁ n hs hn (decodeTags n s₁) refl e
     go₂ x s₁ n hs false hn e = absurd (not-cut e)
 

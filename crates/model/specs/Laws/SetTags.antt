@@ -10,7 +10,8 @@ use Rattle.model.specs.Labels.{Tag, Labels, sameBytes, below, nameLabel,
 use Rattle.model.specs.Edits.{Names, isListed, insertTag, withoutTag, setOrRemove, setLabel, setListed, copyTags, star, isStar, setTags}
 use Rattle.model.specs.Laws.Lists.{All-map}
 use Rattle.model.specs.Laws.Booleans.{never, not-true, and-true, both-of}
-use Rattle.model.specs.Laws.Order.{same-is, is-same, below-other, value-before, value-none, value-here, value-later, ascending-tail, ascending-cons, may-follow, keep-ascending}
+use Rattle.model.specs.Laws.Order.{same-is, is-same, below-other, value-before, value-none, value-here, value-later, ascending-tail}
+use Rattle.model.specs.Laws.Order.{ascending-cons, may-follow, keep-ascending}
 use Rattle.model.specs.Laws.Tags.{SameValues, tags-equal}
 use Rattle.model.specs.Laws.Edits.{set-tags-well}
 
@@ -56,7 +57,8 @@ pub merge-left : (x : Tag) (xs : List Tag) (y : Tag) (ys : List Tag) → below (
 unfolding mergeTags
 merge-left x xs y ys h = rw h
 
-pub merge-right : (x : Tag) (xs : List Tag) (y : Tag) (ys : List Tag) → below (x .key) (y .key) ≡ false → mergeTags (x ∷ xs) (y ∷ ys) ≡ y ∷ mergeTags (x ∷ xs) ys
+pub merge-right : (x : Tag) (xs : List Tag) (y : Tag) (ys : List Tag) → below (x .key) (y .key) ≡ false
+    → mergeTags (x ∷ xs) (y ∷ ys) ≡ y ∷ mergeTags (x ∷ xs) ys
 unfolding mergeTags
 merge-right x xs y ys h = rw h
 
@@ -128,7 +130,8 @@ value-set-other k j (some v) ts h = value-insert-other k (record { key = j; valu
 value-label : (source : Labels) (k j : List ℕ) (l : Labels) → sameBytes j k ≡ false → valueOf k (setLabel source j l .tags) ≡ valueOf k (l .tags)
 value-label source k j l h = cases (sameBytes j nameLabel) (λ e. rw e) (λ e. rw e (value-set-other k j (valueOf j (source .tags)) (l .tags) h))
 
-value-label-same : (source : Labels) (k : List ℕ) (l : Labels) → sameBytes k nameLabel ≡ false → valueOf k (setLabel source k l .tags) ≡ valueOf k (source .tags)
+value-label-same : (source : Labels) (k : List ℕ) (l : Labels) → sameBytes k nameLabel ≡ false
+    → valueOf k (setLabel source k l .tags) ≡ valueOf k (source .tags)
 value-label-same source k l h = rw h (value-set k (valueOf k (source .tags)) (l .tags))
 
 cond-same : {A : Type 0} (b : Bool) (x : A) → cond b x x ≡ x
@@ -176,7 +179,8 @@ unfolding mergeTags
 value-merged k p [] ys a = rw (value-none k) (sym (or-none (valueOf k ys)))
 value-merged k p (x ∷ xs) ys a = go p ys a (λ q zs b. value-merged k q xs zs b)
   where
-    go : (p : List ℕ) (ys : List Tag) → ascending p ys ≡ true → ((q : List ℕ) (zs : List Tag) → ascending q zs ≡ true → valueOf k (mergeTags xs zs) ≡ orElse (valueOf k zs) (valueOf k xs))
+    go : (p : List ℕ) (ys : List Tag) → ascending p ys ≡ true
+        → ((q : List ℕ) (zs : List Tag) → ascending q zs ≡ true → valueOf k (mergeTags xs zs) ≡ orElse (valueOf k zs) (valueOf k xs))
         → valueOf k (mergeWith x (mergeTags xs) ys) ≡ orElse (valueOf k ys) (valueOf k (x ∷ xs))
     go p [] a ih = rw (merge-nil xs, value-none k)
     go p (y ∷ ys) a ih =
@@ -190,7 +194,8 @@ value-merged k p (x ∷ xs) ys a = go p ys a (λ q zs b. value-merged k q xs zs 
         (λ e. value-later k x (mergeTags xs (y ∷ ys)) e ∙ ih p (y ∷ ys) a ∙ ap (orElse (valueOf k (y ∷ ys))) (sym (value-later k x xs e)))))
         (λ f. rw f (cases (sameBytes (y .key) k)
         (λ e. value-same k y (mergeWith x (mergeTags xs) ys) e ∙ sym (ap (λ o. orElse o (valueOf k (x ∷ xs))) (value-same k y ys e)))
-        (λ e. value-later k y (mergeWith x (mergeTags xs) ys) e ∙ go (y .key) ys (g .1) ih ∙ ap (λ o. orElse o (valueOf k (x ∷ xs))) (sym (value-later k y ys e)))))
+        (λ e. value-later k y (mergeWith x (mergeTags xs) ys) e ∙ go (y .key) ys (g .1) ih
+        ∙ ap (λ o. orElse o (valueOf k (x ∷ xs))) (sym (value-later k y ys e)))))
 
 -- order
 
@@ -221,9 +226,11 @@ merged-ascending p (x ∷ xs) ys a b d = go p ys a b d (λ q zs. merged-ascendin
         let gb = ascending-tail p y ys b in
         let unlike = same-sym (y .key) (x .key) (not-here (x .key) y ys (d .0) .0) in
         cases (below (x .key) (y .key))
-        (λ f. rw f (ascending-cons p x (mergeTags xs (y ∷ ys)) (ga .0) (ih (x .key) (y ∷ ys) (ga .1) (ascending-cons (x .key) y ys (may-follow p (y .key) (x .key) (gb .0) f) (gb .1)) (d .1))))
+        (λ f. rw f (ascending-cons p x (mergeTags xs (y ∷ ys)) (ga .0)
+        (ih (x .key) (y ∷ ys) (ga .1) (ascending-cons (x .key) y ys (may-follow p (y .key) (x .key) (gb .0) f) (gb .1)) (d .1))))
         (λ f. rw f (ascending-cons p y (mergeWith x (mergeTags xs) ys) (gb .0)
-        (go (y .key) ys (ascending-cons (y .key) x xs (may-follow p (x .key) (y .key) (ga .0) (below-other (x .key) (y .key) unlike f)) (ga .1)) (gb .1) (apart-tail (x ∷ xs) y ys d) ih)))
+        (go (y .key) ys (ascending-cons (y .key) x xs (may-follow p (x .key) (y .key) (ga .0) (below-other (x .key) (y .key) unlike f)) (ga .1))
+        (gb .1) (apart-tail (x ∷ xs) y ys d) ih)))
 
 value-name : (p : List ℕ) (ts : List Tag) → ascending p ts ≡ true → valueOf nameLabel ts ≡ none
 value-name p [] a = value-none nameLabel
@@ -242,11 +249,13 @@ set-star : (joinLabels skip : Names) (k : List ℕ) → isStar joinLabels ≡ tr
 unfolding isSet
 set-star joinLabels skip k h = rw h (and-true (not (isListed skip k)))
 
-stay-listed : (joinLabels skip : Names) (us : List Tag) (k : List ℕ) → isStar joinLabels ≡ false → stays joinLabels skip us k ≡ cond (isSet joinLabels skip k) false true
+stay-listed : (joinLabels skip : Names) (us : List Tag) (k : List ℕ) → isStar joinLabels ≡ false
+    → stays joinLabels skip us k ≡ cond (isSet joinLabels skip k) false true
 unfolding stays
 stay-listed joinLabels skip us k h = rw h
 
-stay-star : (joinLabels skip : Names) (us : List Tag) (k : List ℕ) → isStar joinLabels ≡ true → stays joinLabels skip us k ≡ cond (isSet joinLabels skip k) (isNone (valueOf k us)) true
+stay-star : (joinLabels skip : Names) (us : List Tag) (k : List ℕ) → isStar joinLabels ≡ true
+    → stays joinLabels skip us k ≡ cond (isSet joinLabels skip k) (isNone (valueOf k us)) true
 unfolding stays
 stay-star joinLabels skip us k h = rw h
 
@@ -298,7 +307,8 @@ module _ (joinLabels skip : Names) (source l : Labels) (ws : WellFormed source) 
       value-merged k [] staying fromSource from-ascending
       ∙ rw (value-keep (isSet joinLabels skip) k us, value-keep (stays joinLabels skip us) k (l .tags))
 
-  listed-values : isStar joinLabels ≡ false → (k : List ℕ) → sameBytes k nameLabel ≡ false → valueOf k (setTags joinLabels skip source l .tags) ≡ valueOf k (mergeTags staying fromSource)
+  listed-values : isStar joinLabels ≡ false → (k : List ℕ) → sameBytes k nameLabel ≡ false
+      → valueOf k (setTags joinLabels skip source l .tags) ≡ valueOf k (mergeTags staying fromSource)
   unfolding setTags
   listed-values h k plain =
       rw h (value-listed skip source k plain joinLabels l) ∙ go (isListed skip k) (isListed joinLabels k) refl refl ∙ sym (streams-value k)
@@ -330,12 +340,14 @@ module _ (joinLabels skip : Names) (source l : Labels) (ws : WellFormed source) 
       cases (isStar joinLabels)
       (λ h. star-values h k)
       (λ h. cases (sameBytes k nameLabel)
-      (λ e. ap (λ x. valueOf x (setTags joinLabels skip source l .tags)) (same-is k nameLabel e) ∙ value-name [] (setTags joinLabels skip source l .tags) (set-tags-well joinLabels skip source l ws wl .order)
+      (λ e. ap (λ x. valueOf x (setTags joinLabels skip source l .tags)) (same-is k nameLabel e)
+      ∙ value-name [] (setTags joinLabels skip source l .tags) (set-tags-well joinLabels skip source l ws wl .order)
       ∙ sym (ap (λ x. valueOf x (mergeTags staying fromSource)) (same-is k nameLabel e) ∙ value-name [] (mergeTags staying fromSource) streams-ascending))
       (λ e. listed-values h k e))
 
   pub set-tags-merge : setTags joinLabels skip source l .tags ≡ mergeTags staying fromSource
-  set-tags-merge = tags-equal [] (setTags joinLabels skip source l .tags) (mergeTags staying fromSource) (set-tags-well joinLabels skip source l ws wl .order) streams-ascending same-values
+  set-tags-merge = tags-equal [] (setTags joinLabels skip source l .tags) (mergeTags staying fromSource)
+      (set-tags-well joinLabels skip source l ws wl .order) streams-ascending same-values
 
 -- the name
 
@@ -353,7 +365,8 @@ name-listed : (skip : Names) (source : Labels) (ks : Names) (l : Labels)
     → setListed skip source ks l .name ≡ cond (not (isListed skip nameLabel) && isListed ks nameLabel) (source .name) (l .name)
 unfolding setListed isListed
 name-listed skip source [] l = cases (isListed skip nameLabel) (λ e. rw e) (λ e. rw e)
-name-listed skip source (j ∷ ks) l = name-listed skip source ks (cond (isListed skip j) l (setLabel source j l)) ∙ name-step skip source j l (isListed ks nameLabel)
+name-listed skip source (j ∷ ks) l = name-listed skip source ks (cond (isListed skip j) l (setLabel source j l))
+    ∙ name-step skip source j l (isListed ks nameLabel)
 
 star-unnamed : (ks : Names) → isStar ks ≡ true → isListed ks nameLabel ≡ false
 unfolding isListed sameBytes

@@ -8,7 +8,8 @@ use native.Mathlib.Omega.{arith}
 use Rattle.model.specs.Lists.{cases}
 use Rattle.model.specs.Labels.{Tag, sameBytes, below, ascending, valueOf, sameTags}
 use Rattle.model.specs.Laws.Booleans.{never, both-of}
-use Rattle.model.specs.Laws.Order.{same-is, same-refl, below-other, value-before, value-none, value-here, value-later, ascending-tail, ascending-cons, may-follow}
+use Rattle.model.specs.Laws.Order.{same-is, same-refl, below-other, value-before, value-none, value-here, value-later, ascending-tail}
+use Rattle.model.specs.Laws.Order.{ascending-cons, may-follow}
 
 tag-is : (t u : Tag) → t .key ≡ u .key → t .value ≡ u .value → t ≡ u
 tag-is t u e f = λ i. record { key = e i; value = f i }
@@ -39,7 +40,8 @@ abbrev pub SameValues : List Tag → List Tag → Type 0
 SameValues ts us = (k : List ℕ) → valueOf k ts ≡ valueOf k us
 
 -- what follows two equal keys has the same values
-tails-same : (t u : Tag) (ts us : List Tag) → t .key ≡ u .key → ascending (t .key) ts ≡ true → ascending (u .key) us ≡ true → SameValues (t ∷ ts) (u ∷ us) → SameValues ts us
+tails-same : (t u : Tag) (ts us : List Tag) → t .key ≡ u .key → ascending (t .key) ts ≡ true → ascending (u .key) us ≡ true
+    → SameValues (t ∷ ts) (u ∷ us) → SameValues ts us
 tails-same t u ts us e a b h k =
     cases (sameBytes (t .key) k)
     (λ f.
@@ -48,10 +50,12 @@ tails-same t u ts us e a b h k =
     (λ f. sym (value-later k t ts f) ∙ h k ∙ value-later k u us (ap (λ x. sameBytes x k) (sym e) ∙ f))
 
 -- a first key is not below the other list's
-not-lower : {X : Type 0} (p : List ℕ) (t u : Tag) (ts us : List Tag) → ascending p (u ∷ us) ≡ true → SameValues (t ∷ ts) (u ∷ us) → below (t .key) (u .key) ≡ true → X
+not-lower : {X : Type 0} (p : List ℕ) (t u : Tag) (ts us : List Tag) → ascending p (u ∷ us) ≡ true → SameValues (t ∷ ts) (u ∷ us)
+    → below (t .key) (u .key) ≡ true → X
 not-lower p t u ts us b h f =
     let g = ascending-tail p u us b in
-    not-some (t .value) (sym (value-before (t .key) (u ∷ us) (ascending-cons (t .key) u us (may-follow p (u .key) (t .key) (g .0) f) (g .1))) ∙ sym (h (t .key)) ∙ value-here t ts)
+    not-some (t .value) (sym (value-before (t .key) (u ∷ us) (ascending-cons (t .key) u us (may-follow p (u .key) (t .key) (g .0) f) (g .1)))
+    ∙ sym (h (t .key)) ∙ value-here t ts)
 
 pub tags-equal : (p : List ℕ) (ts us : List Tag) → ascending p ts ≡ true → ascending p us ≡ true → SameValues ts us → ts ≡ us
 tags-equal p [] [] a b h = refl

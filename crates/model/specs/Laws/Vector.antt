@@ -8,11 +8,13 @@ use lib.Dec.{leb, eqb}
 use lib.ListN.{length, getD, take, drop, length-append, length-drop, take-append-drop}
 use lib.Seq.{take-at, drop-at, length-take-le}
 use borrow.Author.Tests.{le-leb, leb-true, eqb-true, eq-eqb}
-use Rattle.model.specs.Limits.{maxSeries, maxPoints, maxTags, maxLabelBytes}
+use Rattle.model.specs.Limits.{maxSeries, maxPoints, maxTags, maxLabelBytes, sizesLength}
 use Rattle.model.specs.Lists.{All}
 use Rattle.model.specs.Labels.{Labels, Bytes, WellFormed}
 use Rattle.model.specs.Record.{Decoded, decoded, cut, badKey, decode, encode}
-use Rattle.model.specs.Vector.{Series, Shape, Vector, labelsOfAll, labelBytes, readingsOf, sizesOf, labelPart, vector, faulty, Records, records, badRecord, withRecord, onDecoded, recordsIn, seriesOf, withReadings, withSizes, twoBytesAt, takeVector, Readings, GoodSeries, Valid}
+use Rattle.model.specs.Vector.{Series, Shape, Vector, labelsOfAll, labelBytes, readingsOf, sizesOf, labelPart, vector, faulty, Records, records}
+use Rattle.model.specs.Vector.{badRecord, withRecord, onDecoded, recordsIn, seriesOf, withReadings, withSizes, twoBytesAt, takeVector, Readings}
+use Rattle.model.specs.Vector.{GoodSeries, Valid}
 use Rattle.model.specs.Laws.Booleans.{both-of}
 use Rattle.model.specs.Laws.Lists.{All-front, All-back, All-append}
 use Rattle.model.specs.Laws.Record.{decode-encode, decode-is, decode-well, good-encoded}
@@ -44,7 +46,7 @@ take-valid side v h =
       two-bytes (length (v .series)),
       two-bytes (v .shape .points),
       two-bytes (length (labelBytes (v .series))),
-      le-leb 6 (suc (suc (suc (suc (suc (suc (length (labelBytes (v .series))))))))) (omega arith),
+      le-leb sizesLength (suc (suc (suc (suc (suc (suc (length (labelBytes (v .series))))))))) (omega arith),
       le-leb (length (v .series)) maxSeries (h .few),
       le-leb (v .shape .points) maxPoints (h .points),
       eq-eqb (length (labelBytes (v .series))) (length (labelBytes (v .series))) refl,
@@ -86,7 +88,8 @@ records-read (suc n) i s ls e = go (records-read n (suc i)) (decode s) refl e
     Later : Type 0
     Later = (s : List ℕ) (ls : List Labels) → recordsIn n (suc i) s ≡ records ls → RecordsRead n s ls
 
-    last : Later → (l : Labels) (r : List ℕ) → decode s ≡ decoded l r → (w : Records) → recordsIn n (suc i) r ≡ w → withRecord l w ≡ records ls → RecordsRead (suc n) s ls
+    last : Later → (l : Labels) (r : List ℕ) → decode s ≡ decoded l r → (w : Records) → recordsIn n (suc i) r ≡ w → withRecord l w ≡ records ls
+        → RecordsRead (suc n) s ls
     last ih l r h (badRecord m j) g e = no-records m j ls e
     last ih l r h (records ms) g e =
         let rest = ih r ms g in
@@ -143,7 +146,7 @@ series-readings p [] r e = sym (empty-of r p e)
 series-readings p (l ∷ ls) r e = ap (λ x. take p r ++ x) (series-readings p ls (drop p r) (length-drop p r ∙ (omega (arith, e)))) ∙ take-append-drop p r
 
 -- the six bytes in front of a label array
-six : (s : List ℕ) → 6 ≤ length s → s ≡ getD s 0 0 ∷ getD s 1 0 ∷ getD s 2 0 ∷ getD s 3 0 ∷ getD s 4 0 ∷ getD s 5 0 ∷ drop 6 s
+six : (s : List ℕ) → sizesLength ≤ length s → s ≡ getD s 0 0 ∷ getD s 1 0 ∷ getD s 2 0 ∷ getD s 3 0 ∷ getD s 4 0 ∷ getD s 5 0 ∷ drop sizesLength s
 six [] h = absurd (omega (arith, h))
 six (a ∷ []) h = absurd (omega (arith, h))
 six (a ∷ b ∷ []) h = absurd (omega (arith, h))
@@ -168,7 +171,8 @@ low-byte a b h = omega arith
 high-byte : (a b : ℕ) → a < 256 → (a + 256 * b) / 256 ≡ b
 high-byte a b h = omega arith
 
-sizes-again : (s : List ℕ) → Bytes s → 6 ≤ length s → s ≡ sizesOf (twoBytesAt s 0) (record { points = twoBytesAt s 2 }) (twoBytesAt s 4) ++ drop 6 s
+sizes-again : (s : List ℕ) → Bytes s → sizesLength ≤ length s
+    → s ≡ sizesOf (twoBytesAt s 0) (record { points = twoBytesAt s 2 }) (twoBytesAt s 4) ++ drop sizesLength s
 sizes-again s b h =
     rw (
       low-byte (getD s 0 0) (getD s 1 0) (byte-at s 0 b),
@@ -208,9 +212,9 @@ module _ (side : ℕ) (s r : List ℕ) (v : Vector) (bytes : Bytes s) (words : R
   shape = record { points = p }
 
   abbrev array : List ℕ
-  array = drop 6 s
+  array = drop sizesLength s
 
-  taken-last : 6 ≤ length s → n ≤ maxSeries → p ≤ maxPoints → length array ≡ size → (ls : List Labels) → RecordsRead n array ls → length r ≡ n * p
+  taken-last : sizesLength ≤ length s → n ≤ maxSeries → p ≤ maxPoints → length array ≡ size → (ls : List Labels) → RecordsRead n array ls → length r ≡ n * p
       → v ≡ record { shape = shape; series = seriesOf p ls r } → TakenIs s r v
   taken-last h6 hn hp ha ls o hr hv =
       let count : length (seriesOf p ls r) ≡ n = series-count p ls r ∙ o .count in
@@ -219,22 +223,30 @@ module _ (side : ℕ) (s r : List ℕ) (v : Vector) (bytes : Bytes s) (words : R
       let small : length array ≤ maxLabelBytes = omega (arith, ha, byte-at s 4 bytes, byte-at s 5 bytes) in
       rw hv
       (record {
-        valid = record { few = rw count hn; points = hp; bytes = rw labels small; series = series-good p ls r (read-good ls array (bytes-behind 6 s bytes) (o .reads)) words wide };
+        valid = record {
+          few = rw count hn;
+          points = hp;
+          bytes = rw labels small;
+          series = series-good p ls r
+              (read-good ls array (bytes-behind 6 s bytes) (o .reads)) words wide;
+        };
         labels = rw (label-part shape (seriesOf p ls r), count, labels, ha) (sizes-again s bytes h6);
         readings = sym (series-readings p ls r wide);
       })
 
-  taken-readings : 6 ≤ length s → n ≤ maxSeries → p ≤ maxPoints → length array ≡ size → (w : Records) → recordsIn n 0 array ≡ w → withReadings side n shape r w ≡ vector v → TakenIs s r v
+  taken-readings : sizesLength ≤ length s → n ≤ maxSeries → p ≤ maxPoints → length array ≡ size → (w : Records) → recordsIn n 0 array ≡ w
+      → withReadings side n shape r w ≡ vector v → TakenIs s r v
   taken-readings h6 hn hp ha (badRecord k i) h e = not-faulty k side i v e
   taken-readings h6 hn hp ha (records ls) h e = go (eqb (length r) (n * p)) refl e
     where
-      go : (t : Bool) → eqb (length r) (n * p) ≡ t → cond t (vector (record { shape = shape; series = seriesOf p ls r })) (faulty 5 side 0) ≡ vector v → TakenIs s r v
+      go : (t : Bool) → eqb (length r) (n * p) ≡ t → cond t (vector (record { shape = shape; series = seriesOf p ls r })) (faulty 5 side 0) ≡ vector v
+          → TakenIs s r v
       go false ht e = not-faulty 5 side 0 v e
       go true ht e =
           taken-last h6 hn hp ha ls (records-read n 0 array ls h) (eqb-true (length r) (n * p) ht)
           (sym (vector-is (record { shape = shape; series = seriesOf p ls r }) v e))
 
-  taken-sizes : 6 ≤ length s → (t : Bool) → (leb n maxSeries && (leb p maxPoints && eqb (length array) size)) ≡ t
+  taken-sizes : sizesLength ≤ length s → (t : Bool) → (leb n maxSeries && (leb p maxPoints && eqb (length array) size)) ≡ t
       → cond t (withReadings side n shape r (recordsIn n 0 array)) (faulty 3 side 0) ≡ vector v → TakenIs s r v
   taken-sizes h6 false h e = not-faulty 3 side 0 v e
   taken-sizes h6 true h e =
@@ -244,9 +256,9 @@ module _ (side : ℕ) (s r : List ℕ) (v : Vector) (bytes : Bytes s) (words : R
 
   pub taken-is : takeVector side s r ≡ vector v → TakenIs s r v
   unfolding takeVector
-  taken-is e = go (leb 6 (length s)) refl e
+  taken-is e = go (leb sizesLength (length s)) refl e
     where
-      go : (t : Bool) → leb 6 (length s) ≡ t → cond t (withSizes side n shape size array r) (faulty 3 side 0) ≡ vector v → TakenIs s r v
+      go : (t : Bool) → leb sizesLength (length s) ≡ t → cond t (withSizes side n shape size array r) (faulty 3 side 0) ≡ vector v → TakenIs s r v
       go false h e = not-faulty 3 side 0 v e
       go true h e = taken-sizes (leb-true 6 (length s) h) _ refl e
 

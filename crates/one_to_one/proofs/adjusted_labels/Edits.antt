@@ -20,29 +20,29 @@ use Rattle.kept_labels.specs.Edited.{kept, Sized}
 use Rattle.kept_labels.specs.declared.Size.{Size}
 use Rattle.query.specs.declared.Query.{Query}
 use Rattle.semantics.specs.Binop.{editedBy, adjustBinaryOpTags}
-use Rattle.one_to_one.specs.adjusted_labels.Edits.{queryBy, leavesName, keepsName, InOrder}
+use Rattle.one_to_one.specs.adjusted_labels.Edits.{pairQuery, leavesName, keepsName, InOrder, edited}
 
 -- `keeps_name`
 
 module _ (names : List ℕ) (q : Query) (r : Bool) (hr : r ≡ resets (q .operator) (q .«keep_names») (q .bool)) where
-  told : r ≡ shouldResetMetricGroup (queryBy names q)
+  told : r ≡ shouldResetMetricGroup (pairQuery names q)
   told = hr
 
-  pub keeps-reset : r ≡ true → false ≡ keepsName (queryBy names q)
+  pub keeps-reset : r ≡ true → false ≡ keepsName (pairQuery names q)
   keeps-reset h = rw (← told, h)
 
   module _ (h : r ≡ false) where
-    pub keeps-all : q .matching ≡ M.All → true ≡ keepsName (queryBy names q)
+    pub keeps-all : q .matching ≡ M.All → true ≡ keepsName (pairQuery names q)
     keeps-all e = rw (← told, h, e)
 
-    pub keeps-on-kept : q .matching ≡ M.On → q .«keep_names» ≡ true → true ≡ keepsName (queryBy names q)
+    pub keeps-on-kept : q .matching ≡ M.On → q .«keep_names» ≡ true → true ≡ keepsName (pairQuery names q)
     keeps-on-kept e k = rw (← told, h, e, k)
 
     module _ (b : Bool) (hb : b ≡ isListed (namesOf names) nameLabel) where
-      pub keeps-on : q .matching ≡ M.On → q .«keep_names» ≡ false → b ≡ keepsName (queryBy names q)
+      pub keeps-on : q .matching ≡ M.On → q .«keep_names» ≡ false → b ≡ keepsName (pairQuery names q)
       keeps-on e k = rw (← told, h, e, k, hb)
 
-      pub keeps-ignoring : q .matching ≡ M.Ignoring → not b ≡ keepsName (queryBy names q)
+      pub keeps-ignoring : q .matching ≡ M.Ignoring → not b ≡ keepsName (pairQuery names q)
       keeps-ignoring e = rw (← told, h, e, hb)
 
 -- the edit
@@ -56,7 +56,8 @@ none-ignored (t ∷ ts) = rw (none-ignored ts)
 not-name : (p k : List ℕ) → mayFollow p k ≡ true → sameBytes nameLabel k ≡ false
 not-name p k h =
     cases (sameBytes nameLabel k)
-    (λ e. never (sym (unlike (sameBytes k nameLabel) (both-of (below p k) (not (sameBytes k nameLabel)) h .1)) ∙ is-same k nameLabel (sym (same-is nameLabel k e))))
+    (λ e. never (sym (unlike (sameBytes k nameLabel) (both-of (below p k) (not (sameBytes k nameLabel)) h .1))
+    ∙ is-same k nameLabel (sym (same-is nameLabel k e))))
     (λ e. e)
   where
     unlike : (b : Bool) → not b ≡ true → b ≡ false
@@ -91,33 +92,37 @@ module _ (ns : Names) (l : Labels) where
   unfolding isListed
   listed-first = rw (same-refl nameLabel)
 
-  edited-kept : (m : Model.Matching) (k reset : Bool) → ascending [] (l .tags) ≡ true → editedBy m ns k (clearNameIf reset l) ≡ kept m ns (not reset && leavesName m ns k) l
+  edited-kept : (m : Model.Matching) (k reset : Bool) → ascending [] (l .tags) ≡ true
+      → editedBy m ns k (clearNameIf reset l) ≡ kept m ns (not reset && leavesName m ns k) l
   unfolding removeTagsIgnoring removeTagsOn keyOf
   edited-kept Model.all k reset h = rw (tags-after reset, none-ignored (l .tags), unlisted) (ap (λ n. labelled n (l .tags)) (name-after reset true))
     where
       unlisted : isListed [] nameLabel ≡ false
       unlisted = unfold isListed in refl
-  edited-kept Model.on true reset h = rw (tags-after reset, listed-first, name-unlisted ns [] (l .tags) h) (ap (λ n. labelled n (tagsOn ns (l .tags))) (name-after reset true))
+  edited-kept Model.on true reset h = rw (tags-after reset, listed-first, name-unlisted ns [] (l .tags) h)
+      (ap (λ n. labelled n (tagsOn ns (l .tags))) (name-after reset true))
   edited-kept Model.on false reset h = rw (tags-after reset) (ap (λ n. labelled n (tagsOn ns (l .tags))) (name-after reset (isListed ns nameLabel)))
   edited-kept Model.ignoring k reset h =
-      rw (tags-after reset) (ap (λ n. labelled n (tagsIgnoring ns (l .tags))) (swapped (isListed ns nameLabel) (clearNameIf reset l .name) ∙ name-after reset (not (isListed ns nameLabel))))
+      rw (tags-after reset)
+      (ap (λ n. labelled n (tagsIgnoring ns (l .tags)))
+      (swapped (isListed ns nameLabel) (clearNameIf reset l .name) ∙ name-after reset (not (isListed ns nameLabel))))
 
-pub adjusted-kept : (q : Model.Query) (l : Labels) → InOrder l → adjustBinaryOpTags q l ≡ kept (q .matching) (q .matchingList) (keepsName q) l
+-- where keys ascend, the edit is that of the model
+pub adjusted-kept : (q : Model.Query) (l : Labels) → InOrder l → adjustBinaryOpTags q l ≡ edited q l
 unfolding adjustBinaryOpTags
 adjusted-kept q l h = edited-kept (q .matchingList) l (q .matching) (q .keepNames) (shouldResetMetricGroup q) (h .order)
 
 -- the size and the record of what is kept are those of the edited labels
 
-module _ (names : List ℕ) (q : Query) (l : Labels) (h : InOrder l) (keep : Bool) (hk : keep ≡ keepsName (queryBy names q)) where
-  same : kept (matchingOf (q .matching)) (namesOf names) keep l ≡ adjustBinaryOpTags (queryBy names q) l
-  same = rw hk (sym (adjusted-kept (queryBy names q) l h))
-
-  pub adjusted-sized : (z : Size) → Sized (kept (matchingOf (q .matching)) (namesOf names) keep l) z → Sized (adjustBinaryOpTags (queryBy names q) l) z
-  adjusted-sized z s = rw same at s
+module _ (names : List ℕ) (q : Query) (l : Labels) (keep : Bool) (hk : keep ≡ keepsName (pairQuery names q)) where
+  pub adjusted-sized : (z : Size) → Sized (kept (matchingOf (q .matching)) (namesOf names) keep l) z → Sized (edited (pairQuery names q) l) z
+  adjusted-sized z s = rw hk at s
 
   module _ (d : List ℕ) (at : ℕ) where
-    pub adjusted-room : at + length (encode (adjustBinaryOpTags (queryBy names q) l)) ≤ length d → at + length (encode (kept (matchingOf (q .matching)) (namesOf names) keep l)) ≤ length d
-    adjusted-room r = rw same r
+    pub adjusted-room : at + length (encode (edited (pairQuery names q) l)) ≤ length d
+        → at + length (encode (kept (matchingOf (q .matching)) (namesOf names) keep l)) ≤ length d
+    adjusted-room r = rw hk r
 
-    pub adjusted-put : (d′ : List ℕ) (r : ℕ) → Put d at (encode (kept (matchingOf (q .matching)) (namesOf names) keep l)) d′ r → Put d at (encode (adjustBinaryOpTags (queryBy names q) l)) d′ r
-    adjusted-put d′ r p = rw same at p
+    pub adjusted-put : (d′ : List ℕ) (r : ℕ) → Put d at (encode (kept (matchingOf (q .matching)) (namesOf names) keep l)) d′ r
+        → Put d at (encode (edited (pairQuery names q) l)) d′ r
+    adjusted-put d′ r p = rw hk at p

@@ -13,27 +13,28 @@ use borrow.Author.Tests.{ltb-false}
 use Rattle.model.specs.Row.{overwritten, merged}
 use Rattle.model.specs.Query as Model
 use Rattle.semantics.specs.Events.{Duplicate}
-use Rattle.end_codes.specs.Codes.{leftLast, rightLast, CodeOf, left-last, right-last}
+use Rattle.side_parts.specs.Lent.{RowsHeld, rowSides, Sides}
+use Rattle.key_ends.specs.end_codes.Codes.{leftLast, rightLast, CodeOf, left-last, right-last}
 use Rattle.plan.specs.Keys.{firstOf, lastOf, KeyEnds}
-use Rattle.plan.specs.Merging.{RowMerge, row, failedAt, rowAt, mergeLast, clash}
+use Rattle.plan.specs.Merging.{RowMerge, row, failedAt, mergeLast, clash}
+use Rattle.side_parts.specs.Sides.{rowAt}
 use Rattle.plan.specs.Conclude.{orElse}
-use Rattle.plan.specs.Pairs.{Sides, isPair, pairClash, pairsClash}
+use Rattle.plan.specs.Pairs.{isPair, pairClash, pairsClash}
 use Rattle.merging.specs.declared.Merges.{Merges}
 use Rattle.merging.specs.declared.Merges.the-variants.{Done, FailedAt}
 use Rattle.merge.specs.Merging.{mergedIf}
 use Rattle.answers.proofs.Rows.{row-in}
 use Rattle.merging.specs.Groups.{mergesTo, MergedGroup}
-use Rattle.plan.specs.Laws.Ends.{ends-within, several-stand}
-use Rattle.key_places.specs.Planned.{first-last}
+use Rattle.plan.specs.Laws.Ends.{first-last, ends-within, several-stand}
 use Rattle.merging.specs.Several.{single-row, none-among, several, several-merged}
 use Rattle.one_to_one.specs.declared.pair_checks.Checked.{Checked}
 use Rattle.one_to_one.specs.declared.pair_checks.Checked.the-variants as C
-use Rattle.one_to_one.specs.pairs.Pairing.{sidesOf, Level, failureOf}
+use Rattle.one_to_one.specs.pairs.Pairing.{failureOf}
 use Rattle.one_to_one.specs.pair_checks.Checks.{failedIn, clashIn, clashAt}
 
 -- `ensure_merges`
 
-module _ (allowance p : ℕ) (rows keys : List ℕ) (k first last : ℕ) (level : Level p rows keys) (e : KeyEnds keys k first last) (h : first < last) where
+module _ (allowance p : ℕ) (rows keys : List ℕ) (k first last : ℕ) (level : RowsHeld p rows keys) (e : KeyEnds keys k first last) (h : first < last) where
   first-in : first < length keys
   first-in = several-stand keys k first last e h
 
@@ -56,8 +57,13 @@ module _ (allowance p : ℕ) (rows keys : List ℕ) (k first last : ℕ) (level 
     pub first-fails : m ≡ false → some first ≡ failureOf (mergeLast allowance p rows keys k)
     first-fails f = rw (several allowance p rows k keys first last e h, ← hm, f)
 
-    pub two-merge : m ≡ true → (r : Bool) → r ≡ ltb (firstOf (take (last - (first + 1)) (drop (first + 1) keys)) k) (last - (first + 1)) → r ≡ false → none ≡ failureOf (mergeLast allowance p rows keys k)
-    two-merge t r hr f = rw (several-merged allowance p rows k keys first last e h (rw t at hm), none-among allowance p rows k between (suc first) (overwritten (rowAt p rows last) (rowAt p rows first)) none-between)
+    pub two-merge : m ≡ true → (r : Bool) → r ≡ ltb (firstOf (take (last - (first + 1)) (drop (first + 1) keys)) k) (last - (first + 1)) → r ≡ false
+        → none ≡ failureOf (mergeLast allowance p rows keys k)
+    two-merge t r hr f = rw (
+      several-merged allowance p rows k keys first last e h (rw t at hm),
+      none-among allowance p rows k between (suc first)
+          (overwritten (rowAt p rows last) (rowAt p rows first)) none-between,
+    )
       where
         between : List ℕ
         between = take (last - suc first) (drop (suc first) keys)
@@ -70,7 +76,8 @@ module _ (allowance p : ℕ) (rows keys : List ℕ) (k first last : ℕ) (level 
 
 -- `ensure_single_timeseries`
 
-pub single-fine : (allowance p : ℕ) (rows keys : List ℕ) (k first last : ℕ) → KeyEnds keys k first last → last ≤ first → none ≡ failureOf (mergeLast allowance p rows keys k)
+pub single-fine : (allowance p : ℕ) (rows keys : List ℕ) (k first last : ℕ) → KeyEnds keys k first last → last ≤ first
+    → none ≡ failureOf (mergeLast allowance p rows keys k)
 single-fine allowance p rows keys k first last e le =
     let same : firstOf keys k ≡ lastOf keys k = omega (arith, first-last k keys, e .first-place, e .last-place, le) in
     rw (single-row allowance p rows k keys same)
@@ -85,10 +92,12 @@ merges-told want p d r m = same-failure r d ∙ ap failureOf (m .answer)
 -- the first p words of a work row
 
 module _ (p : ℕ) (work : List ℕ) (h : p ≤ length work) (rows keys : List ℕ) where
-  pub part-room : Level p rows keys → length keys * length (take p work) ≤ length rows
+  pub part-room : RowsHeld p rows keys → length keys * length (take p work) ≤ length rows
   part-room l = rw (length-take-le p work h) (omega (arith, l .whole))
 
-  pub part-told : (allowance k : ℕ) (d : List ℕ) (r : Merges) → MergedGroup (mergeLast allowance (length (take p work)) rows keys k) (length (take p work)) d r → failedIn r ≡ failureOf (mergeLast allowance p rows keys k)
+  pub part-told : (allowance k : ℕ) (d : List ℕ) (r : Merges)
+      → MergedGroup (mergeLast allowance (length (take p work)) rows keys k) (length (take p work)) d r
+      → failedIn r ≡ failureOf (mergeLast allowance p rows keys k)
   part-told allowance k d r m = merges-told (mergeLast allowance p rows keys k) p d r (rw (length-take-le p work h) at m)
 
 -- `check_pair`
@@ -106,9 +115,10 @@ clash-at side kept i (failedAt j d) h = let z : i ≡ j = cc in rw z
 
 module _ (allowance p : ℕ) (left lkeys right rkeys : List ℕ) (k : ℕ) (a : Merges) (ha : failedIn a ≡ failureOf (mergeLast allowance p left lkeys k)) where
   abbrev wanted : Option Duplicate
-  wanted = pairClash allowance (sidesOf p left lkeys right rkeys) k
+  wanted = pairClash allowance (rowSides p lkeys left rkeys right) k
 
-  pub check-left : (c : ℕ) → CodeOf lkeys rkeys k c → (i kept : ℕ) → a ≡ FailedAt i → kept ≡ leftLast c → clashIn (C.Left kept i) ≡ pairClash allowance (sidesOf p left lkeys right rkeys) k
+  pub check-left : (c : ℕ) → CodeOf lkeys rkeys k c → (i kept : ℕ) → a ≡ FailedAt i → kept ≡ leftLast c
+      → clashIn (C.Left kept i) ≡ pairClash allowance (rowSides p lkeys left rkeys right) k
   check-left c hc i kept e hk =
       let z : some i ≡ failureOf (mergeLast allowance p left lkeys k) = rw e at ha in
       rw (← left-last lkeys rkeys k c hc, ← hk, ← clash-at Model.left kept i (mergeLast allowance p left lkeys k) z)
@@ -117,18 +127,19 @@ module _ (allowance p : ℕ) (left lkeys right rkeys : List ℕ) (k : ℕ) (a : 
     left-fine : (kept : ℕ) → none ≡ clash Model.left kept (mergeLast allowance p left lkeys k)
     left-fine kept = clash-of Model.left kept (mergeLast allowance p left lkeys k) (rw e at ha)
 
-    pub check-right : (c : ℕ) → CodeOf lkeys rkeys k c → (i kept : ℕ) → b ≡ FailedAt i → kept ≡ rightLast c → clashIn (C.Right kept i) ≡ pairClash allowance (sidesOf p left lkeys right rkeys) k
+    pub check-right : (c : ℕ) → CodeOf lkeys rkeys k c → (i kept : ℕ) → b ≡ FailedAt i → kept ≡ rightLast c
+        → clashIn (C.Right kept i) ≡ pairClash allowance (rowSides p lkeys left rkeys right) k
     check-right c hc i kept f hk =
         let z : some i ≡ failureOf (mergeLast allowance p right rkeys k) = rw f at hb in
         rw (← left-fine (lastOf lkeys k), ← right-last lkeys rkeys k c hc, ← hk) (clash-at Model.right kept i (mergeLast allowance p right rkeys k) z)
 
-    pub check-fine : b ≡ Done → clashIn C.Fine ≡ pairClash allowance (sidesOf p left lkeys right rkeys) k
+    pub check-fine : b ≡ Done → clashIn C.Fine ≡ pairClash allowance (rowSides p lkeys left rkeys right) k
     check-fine f =
         rw (← left-fine (lastOf lkeys k)) (clash-of Model.right (lastOf rkeys k) (mergeLast allowance p right rkeys k) (rw f at hb))
 
 -- `check_at`
 
-module _ (allowance : ℕ) (s : Sides) (i k : ℕ) (r : Bool) (hr : r ≡ isPair (s .leftKeys) (s .rightKeys) k i) where
+module _ (allowance : ℕ) (s : Sides) (i k : ℕ) (r : Bool) (hr : r ≡ isPair (s .left .keys) (s .right .keys) k i) where
   pub at-pair : r ≡ true → (x : Checked) → clashIn x ≡ pairClash allowance s k → clashIn x ≡ clashAt allowance s i k
   at-pair h x hx = rw (← hr, h) hx
 
@@ -138,32 +149,33 @@ module _ (allowance : ℕ) (s : Sides) (i k : ℕ) (r : Bool) (hr : r ≡ isPair
 -- the loop of `check_pairs`: the places before i have no clash
 
 pub record Checking (allowance : ℕ) (s : Sides) (i : ℕ) : Type 0 where
-  pub within : i ≤ length (s .leftKeys)
-  pub rest : pairsClash allowance s i (drop i (s .leftKeys)) ≡ pairsClash allowance s 0 (s .leftKeys)
+  pub within : i ≤ length (s .left .keys)
+  pub rest : pairsClash allowance s i (drop i (s .left .keys)) ≡ pairsClash allowance s 0 (s .left .keys)
 
 module _ (allowance : ℕ) (s : Sides) where
   pub check-starts : Checking allowance s 0
   check-starts = record { within = omega arith; rest = refl }
 
   module _ (i : ℕ) (inv : Checking allowance s i) where
-    module _ (h : i < length (s .leftKeys)) (x : Checked) (hx : clashIn x ≡ clashAt allowance s i (getD (s .leftKeys) i 0)) where
-      next : orElse (clashIn x) (pairsClash allowance s (suc i) (drop (suc i) (s .leftKeys))) ≡ pairsClash allowance s 0 (s .leftKeys)
+    module _ (h : i < length (s .left .keys)) (x : Checked) (hx : clashIn x ≡ clashAt allowance s i (getD (s .left .keys) i 0)) where
+      next : orElse (clashIn x) (pairsClash allowance s (suc i) (drop (suc i) (s .left .keys))) ≡ pairsClash allowance s 0 (s .left .keys)
       next = rw hx (sym step ∙ inv .rest)
         where
-          step : pairsClash allowance s i (drop i (s .leftKeys)) ≡ orElse (clashAt allowance s i (getD (s .leftKeys) i 0)) (pairsClash allowance s (suc i) (drop (suc i) (s .leftKeys)))
-          step = unfold pairsClash in rw (drop-cons (s .leftKeys) i 0 h)
+          step : pairsClash allowance s i (drop i (s .left .keys))
+              ≡ orElse (clashAt allowance s i (getD (s .left .keys) i 0)) (pairsClash allowance s (suc i) (drop (suc i) (s .left .keys)))
+          step = unfold pairsClash in rw (drop-cons (s .left .keys) i 0 h)
 
       pub check-turn : x ≡ C.Fine → Checking allowance s (i + 1)
       check-turn e = record { within = omega arith; rest = rw (add-one i) (rw e at next) }
 
-      pub check-failed-left : (kept failed : ℕ) → x ≡ C.Left kept failed → clashIn (C.Left kept failed) ≡ pairsClash allowance s 0 (s .leftKeys)
+      pub check-failed-left : (kept failed : ℕ) → x ≡ C.Left kept failed → clashIn (C.Left kept failed) ≡ pairsClash allowance s 0 (s .left .keys)
       check-failed-left kept failed e = rw e at next
 
-      pub check-failed-right : (kept failed : ℕ) → x ≡ C.Right kept failed → clashIn (C.Right kept failed) ≡ pairsClash allowance s 0 (s .leftKeys)
+      pub check-failed-right : (kept failed : ℕ) → x ≡ C.Right kept failed → clashIn (C.Right kept failed) ≡ pairsClash allowance s 0 (s .left .keys)
       check-failed-right kept failed e = rw e at next
 
-    pub check-ends : length (s .leftKeys) ≤ i → none ≡ pairsClash allowance s 0 (s .leftKeys)
+    pub check-ends : length (s .left .keys) ≤ i → none ≡ pairsClash allowance s 0 (s .left .keys)
     check-ends h = sym none-left ∙ inv .rest
       where
-        none-left : pairsClash allowance s i (drop i (s .leftKeys)) ≡ none
-        none-left = unfold pairsClash in rw (drop-of-length-le (s .leftKeys) h)
+        none-left : pairsClash allowance s i (drop i (s .left .keys)) ≡ none
+        none-left = unfold pairsClash in rw (drop-of-length-le (s .left .keys) h)

@@ -1,108 +1,86 @@
--- The row of a side of a pair, from the side itself or from a work row. Assumes nothing.
-use Prim.Native.Nat.{ℕ, suc, _+_, _-_, _*_, _≤_, _<_}
-use mathlib.Core.Path.{_≡_, refl, ap, _∙_}
-use mathlib.Core.Bool.{Bool, true, false, cond, _||_}
-use mathlib.Core.Option.{none, some}
-use mathlib.Core.List.{List}
+-- The row of a side of a code, from the side itself or from a work row. Assumes nothing.
+use Prim.Native.Nat.{ℕ, _+_, _*_, _≤_, _<_}
+use mathlib.Core.Path.{_≡_, refl, sym, ap, _∙_}
+use mathlib.Core.List.{List, _++_}
 use native.Mathlib.Omega.{arith}
-use lib.Dec.{leb, ltb}
-use lib.ListN.{length, take, drop}
-use Rattle.model.specs.Row.{zipWith, overlaps, overwritten, merged}
-use Rattle.merge.specs.Merging.{mergedIf}
-use Rattle.plan.specs.Keys.{firstOf, lastOf, KeyEnds}
-use Rattle.plan.specs.Merging.{RowMerge, failedAt, onRow, rowAt, mergeGroup, mergeLast, rowOf}
+use lib.Dec.{leb}
+use lib.ListN.{length, take, drop, length-append}
+use lib.Seq.{length-take-le, take-at}
+use borrow.Author.Tests.{le-leb, lt-leb}
+use Rattle.model.specs.Row.{zipWith}
+use Rattle.plan.specs.Merging.{RowMerge}
+use Rattle.side_parts.specs.Sides.{rowAt}
+use Rattle.side_parts.specs.Lent.{RowsHeld}
 use Rattle.merging.specs.declared.Merges.{Merges}
 use Rattle.merging.specs.declared.Merges.the-variants.{Done, FailedAt}
 use Rattle.merging.specs.Groups.{mergesTo, MergedGroup}
-use Rattle.plan.specs.Laws.Ends.{ends-within}
-use Rattle.key_places.specs.Planned.{first-last}
-use Rattle.merging.specs.Several.{single-row, several}
+use Rattle.merging.specs.Several.{mergeSeveral}
 use Rattle.answers.proofs.Rows.{row-in, row-width}
-use Rattle.end_codes.specs.Codes.{leftFirst, leftLast, CodeOf, left-ends}
-use Rattle.one_to_one.specs.pairs.Pairing.{failureOf}
-use Rattle.one_to_one.specs.pair_rows.Rows.{SideMerged, sideRow}
+use Rattle.one_to_one.specs.pair_rows.Rows.{soFar, codedSide}
 
-module _ (allowance p : ℕ) (rows keys : List ℕ) (k : ℕ) (s : SideMerged allowance p rows keys k) where
+so-far : (r : Merges) (d : List ℕ) → soFar (mergesTo r d) ≡ d
+so-far Done d = refl
+so-far (FailedAt i) d = refl
+
+module _ (p : ℕ) (rows keys : List ℕ) (h : RowsHeld p rows keys) where
   -- a side of one series: its own row
 
-  module _ (first last : ℕ) (e : KeyEnds keys k first last) where
-    pub side-room : last * p + p ≤ length rows
-    side-room = omega (arith, row-in last (length keys) p (ends-within keys k first last e (rw (e .first-place) (s .stands))), s .level .whole)
+  module _ (i last : ℕ) (hi : i < length keys) (hl : last ≡ i) where
+    pub place-row : last * p + p ≤ length rows
+    place-row = omega (arith, row-in last (length keys) p (rw hl hi), h .whole)
+
+    pub place-in : last < length keys
+    place-in = rw hl hi
 
     module _ (x : List ℕ) (hx : x ≡ rowAt p rows last) where
-      pub side-wide : length x ≡ p
-      side-wide = row-width p rows x last side-room hx
+      pub place-wide : length x ≡ p
+      place-wide = row-width p rows x last place-row hx
 
-      module _ (h : last ≤ first) (f : ℕ → ℕ → ℕ) (y z : List ℕ) where
-        one : firstOf keys k ≡ lastOf keys k
-        one = omega (arith, first-last k keys, e .first-place, e .last-place, h)
+      module _ (allowance j first : ℕ) (hj : first ≡ j) (le : last ≤ first) (f : ℕ → ℕ → ℕ) (y z : List ℕ) where
+        single : x ≡ codedSide allowance p rows keys j i
+        single = hx ∙ rw (← hj, ← hl, le-leb last first le)
 
-        side-single : x ≡ sideRow allowance p rows keys k
-        side-single = hx ∙ rw (e .last-place, single-row allowance p rows k keys one)
+        pub single-right : z ≡ zipWith f y x → z ≡ zipWith f y (codedSide allowance p rows keys j i)
+        single-right e = e ∙ ap (zipWith f y) single
 
-        pub with-single-right : z ≡ zipWith f y x → z ≡ zipWith f y (sideRow allowance p rows keys k)
-        with-single-right g = g ∙ ap (zipWith f y) side-single
+        pub single-left : z ≡ zipWith f x y → z ≡ zipWith f (codedSide allowance p rows keys j i) y
+        single-left e = e ∙ ap (λ (w : List ℕ). zipWith f w y) single
 
-        pub with-single-left : z ≡ zipWith f x y → z ≡ zipWith f (sideRow allowance p rows keys k) y
-        with-single-left g = g ∙ ap (λ (w : List ℕ). zipWith f w y) side-single
+  -- a side whose series are merged in a work row of 1,024 readings, of which p are used
 
-    -- where all merge, the first one does
-    first-merges : first < last → mergedIf true (rowAt p rows last) (rowAt p rows first) ≡ merged allowance (rowAt p rows last) (rowAt p rows first)
-    unfolding merged
-    first-merges h = go (leb (length (rowAt p rows last)) 2 || ltb allowance (overlaps (rowAt p rows last) (rowAt p rows first))) (rw (several allowance p rows k keys first last e h) at (s .single))
-      where
-        go : (b : Bool) → failureOf (onRow (cond b none (some (overwritten (rowAt p rows last) (rowAt p rows first)))) (failedAt first (rowAt p rows last)) (mergeGroup allowance p rows k (suc first) (take (last - suc first) (drop (suc first) keys)))) ≡ none → mergedIf true (rowAt p rows last) (rowAt p rows first) ≡ cond b none (some (overwritten (rowAt p rows last) (rowAt p rows first)))
-        go true g = absurd (let z : _≡_ {A = ℕ} 0 1 = cc in omega arith)
-        go false g = refl
+  module _ (work : List ℕ) (long : length work ≡ 1024) where
+    room : p ≤ length work
+    room = omega (arith, h .narrow, long)
 
-    pub work-merges : first < last → (work : List ℕ) → length work ≡ p → mergedIf true (rowAt (length work) rows last) (rowAt (length work) rows first) ≡ merged allowance (rowAt (length work) rows last) (rowAt (length work) rows first)
-    work-merges h work w = rw w (first-merges h)
+    pub work-part : p ≡ length (take p work)
+    work-part = sym (length-take-le p work room)
 
-  -- a side whose series are merged in a work row
+    pub work-room : length keys * length (take p work) ≤ length rows
+    work-room = rw (← work-part) (omega (arith, h .whole))
 
-  module _ (work₀ : List ℕ) (h : length work₀ ≡ p) where
-    pub work-room : length keys * length work₀ ≤ length rows
-    work-room = rw h (omega (arith, s .level .whole))
+    module _ (allowance first last : ℕ) (d : List ℕ) (r : Merges)
+        (m : MergedGroup (mergeSeveral allowance (length (take p work)) rows keys first last) (length (take p work)) d r) where
+      merged-long : length d ≡ p
+      merged-long = m .long ∙ sym work-part
 
-    module _ (work : List ℕ) (r : Merges) (m : MergedGroup (mergeLast allowance (length work₀) rows keys k) (length work₀) work r) where
-      merged-row : (want : RowMerge) (r : Merges) → mergesTo r work ≡ want → failureOf want ≡ none → work ≡ rowOf want
-      merged-row want Done e g = ap rowOf e
-      merged-row want (FailedAt i) e g = absurd (let z : _≡_ {A = ℕ} 0 1 = apart (ap failureOf e ∙ g) in omega arith)
-        where
-          apart : failureOf (failedAt i work) ≡ none → _≡_ {A = ℕ} 0 1
-          apart u = cc
+      again : take p (d ++ drop p work) ≡ d
+      again = take-at d (drop p work) p merged-long
 
-      pub work-merged : work ≡ sideRow allowance p rows keys k
-      work-merged = merged-row (mergeLast allowance p rows keys k) r (rw h at (m .answer)) (s .single)
+      pub work-there : p ≤ length (d ++ drop p work)
+      work-there = omega (arith, length-append d (drop p work), merged-long)
 
-      pub with-merged-right : (f : ℕ → ℕ → ℕ) (y z : List ℕ) → z ≡ zipWith f y work → z ≡ zipWith f y (sideRow allowance p rows keys k)
-      with-merged-right f y z e = e ∙ ap (zipWith f y) work-merged
+      pub work-again : p ≡ length (take p (d ++ drop p work))
+      work-again = rw again (sym merged-long)
 
-      pub with-merged-left : (f : ℕ → ℕ → ℕ) (y z : List ℕ) → z ≡ zipWith f work y → z ≡ zipWith f (sideRow allowance p rows keys k) y
-      with-merged-left f y z e = e ∙ ap (λ (w : List ℕ). zipWith f w y) work-merged
+      pub work-wide : length (take p (d ++ drop p work)) ≡ p
+      work-wide = sym work-again
 
--- a code's left places
+      module _ (i j : ℕ) (hl : last ≡ i) (hj : first ≡ j) (lt : first < last) (f : ℕ → ℕ → ℕ) (y z : List ℕ) where
+        several : d ≡ codedSide allowance p rows keys j i
+        several = rw (← hj, ← hl, lt-leb last first lt) (sym (so-far r d) ∙ ap soFar (rw (← work-part) at (m .answer)))
 
-module _ (c first last : ℕ) (f : first ≡ leftFirst c) (l : last ≡ leftLast c) where
-  pub code-several : leftFirst c < leftLast c → first < last
-  code-several h = rw (f, l) h
+        pub several-right : z ≡ zipWith f y (take p (d ++ drop p work)) → z ≡ zipWith f y (codedSide allowance p rows keys j i)
+        several-right e = e ∙ ap (zipWith f y) (again ∙ several)
 
-  pub several-coded : first < last → leftFirst c < leftLast c
-  several-coded h = rw (← f, ← l) h
-
--- the left side of a coded key
-
-module _ (allowance p : ℕ) (rows lkeys rkeys : List ℕ) (k : ℕ) (s : SideMerged allowance p rows lkeys k) (c : ℕ) (hc : CodeOf lkeys rkeys k c) (last : ℕ) (hl : last ≡ leftLast c) where
-  coded : KeyEnds lkeys k (leftFirst c) last
-  coded = left-ends lkeys rkeys k c hc (leftFirst c) last refl hl
-
-  pub coded-room : last * p + p ≤ length rows
-  coded-room = side-room allowance p rows lkeys k s (leftFirst c) last coded
-
-  module _ (x : List ℕ) (hx : x ≡ rowAt p rows last) where
-    pub coded-wide : length x ≡ p
-    coded-wide = side-wide allowance p rows lkeys k s (leftFirst c) last coded x hx
-
-    pub coded-single : (first : ℕ) → first ≡ leftFirst c → last ≤ first → (f : ℕ → ℕ → ℕ) (y z : List ℕ) → z ≡ zipWith f x y → z ≡ zipWith f (sideRow allowance p rows lkeys k) y
-    coded-single first hf h f y z g =
-        with-single-left allowance p rows lkeys k s (leftFirst c) last coded x hx (rw (← hf) h) f y z g
+        pub several-left : z ≡ zipWith f (take p (d ++ drop p work)) y → z ≡ zipWith f (codedSide allowance p rows keys j i) y
+        several-left e = e ∙ ap (λ (w : List ℕ). zipWith f w y) (again ∙ several)

@@ -8,7 +8,7 @@ use lib.Dec.{eqb, ltb}
 use lib.ListN.{length}
 use borrow.Author.Tests.{eq-eqb, ne-eqb, eqb-true, ltb-true}
 use Rattle.model.specs.Laws.Booleans.{both-of}
-use Rattle.end_codes.specs.Codes.{leftFirst, rightFirst, CodeOf, left-first, right-first}
+use Rattle.key_ends.specs.end_codes.Codes.{leftFirst, rightFirst, CodeOf, left-first, right-first}
 use Rattle.plan.specs.Keys.{dropped, firstOf}
 use Rattle.plan.specs.Pairs.{isPair}
 
@@ -29,7 +29,8 @@ module _ (ks ms : List ℕ) (k i : ℕ) where
   -- where a place pairs, its key stands on both sides, on the left at the place
   module _ (r : Bool) (hr : r ≡ isPair ks ms k i) (h : r ≡ true) where
     tests : (eqb (firstOf ks k) i ≡ true) × (ltb (firstOf ms k) (length ms) ≡ true)
-    tests = both-of (eqb (firstOf ks k) i) (ltb (firstOf ms k) (length ms)) (both-of (not (eqb k dropped)) (eqb (firstOf ks k) i && ltb (firstOf ms k) (length ms)) (sym hr ∙ h) .1)
+    tests = both-of (eqb (firstOf ks k) i) (ltb (firstOf ms k) (length ms))
+        (both-of (not (eqb k dropped)) (eqb (firstOf ks k) i && ltb (firstOf ms k) (length ms)) (sym hr ∙ h) .1)
 
     pub pair-left : i < length ks → firstOf ks k < length ks
     pair-left w = let e = eqb-true (firstOf ks k) i (tests .0) in omega (arith, e)

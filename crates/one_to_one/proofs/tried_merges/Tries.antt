@@ -10,22 +10,23 @@ use lib.Seq.{length-take-le}
 use Rattle.model.specs.Row.{merged}
 use Rattle.merge.specs.Merging.{mergedIf}
 use Rattle.plan.specs.Keys.{firstOf}
-use Rattle.plan.specs.Merging.{rowAt}
-use Rattle.key_places.specs.Places as Places
-use Rattle.key_places.specs.Planned.{first-places}
+use Rattle.side_parts.specs.Sides.{rowAt}
 
 -- `row_merges`
 
-pub rows-alike : (p : ℕ) (rows : List ℕ) (i j : ℕ) → i * p + p ≤ length rows → j * p + p ≤ length rows → (s d : List ℕ) → d ≡ rowAt p rows i → s ≡ rowAt p rows j → length s ≡ length d
+pub rows-alike : (p : ℕ) (rows : List ℕ) (i j : ℕ) → i * p + p ≤ length rows → j * p + p ≤ length rows → (s d : List ℕ) → d ≡ rowAt p rows i
+    → s ≡ rowAt p rows j → length s ≡ length d
 rows-alike p rows i j hi hj s d hd hs =
     let a : length d ≡ p = ap length hd ∙ length-take-le p (drop (i * p) rows) (omega (arith, length-drop (i * p) rows)) in
     let b : length s ≡ p = ap length hs ∙ length-take-le p (drop (j * p) rows) (omega (arith, length-drop (j * p) rows)) in
     b ∙ sym a
 
-pub rows-told : (allowance p : ℕ) (rows : List ℕ) (i j : ℕ) (s d : List ℕ) → d ≡ rowAt p rows i → s ≡ rowAt p rows j → (r : Bool) → mergedIf r d s ≡ merged allowance d s → mergedIf r (rowAt p rows i) (rowAt p rows j) ≡ merged allowance (rowAt p rows i) (rowAt p rows j)
+pub rows-told : (allowance p : ℕ) (rows : List ℕ) (i j : ℕ) (s d : List ℕ) → d ≡ rowAt p rows i → s ≡ rowAt p rows j → (r : Bool)
+    → mergedIf r d s ≡ merged allowance d s → mergedIf r (rowAt p rows i) (rowAt p rows j) ≡ merged allowance (rowAt p rows i) (rowAt p rows j)
 rows-told allowance p rows i j s d hd hs r h = rw (hd, hs) at h
 
 -- `stands_between`
 
-pub between-told : (keys : List ℕ) (k from to a : ℕ) → a ≡ Places.firstOf (take (to - from) (drop from keys)) k → ltb a (to - from) ≡ ltb (firstOf (take (to - from) (drop from keys)) k) (to - from)
-between-told keys k from to a h = rw (h, first-places k (take (to - from) (drop from keys)))
+pub between-told : (keys : List ℕ) (k from to a : ℕ) → a ≡ firstOf (take (to - from) (drop from keys)) k
+    → ltb a (to - from) ≡ ltb (firstOf (take (to - from) (drop from keys)) k) (to - from)
+between-told keys k from to a h = rw h

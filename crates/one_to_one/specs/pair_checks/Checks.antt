@@ -4,7 +4,8 @@ use mathlib.Core.Bool.{cond}
 use mathlib.Core.Option.{Option, none, some}
 use Rattle.model.specs.Query as Model
 use Rattle.semantics.specs.Events.{Duplicate}
-use Rattle.plan.specs.Pairs.{Sides, isPair, pairClash}
+use Rattle.plan.specs.Pairs.{isPair, pairClash}
+use Rattle.side_parts.specs.Lent.{Sides}
 use Rattle.merging.specs.declared.Merges.{Merges}
 use Rattle.merging.specs.declared.Merges.the-variants.{Done, FailedAt}
 use Rattle.one_to_one.specs.declared.pair_checks.Checked.{Checked}
@@ -23,4 +24,4 @@ clashIn (C.Right kept failed) = some (record { kept = record { side = Model.righ
 
 -- the clash at the left place i, whose key is k
 abbrev pub clashAt : ℕ → Sides → ℕ → ℕ → Option Duplicate
-clashAt allowance s i k = cond (isPair (s .leftKeys) (s .rightKeys) k i) (pairClash allowance s k) none
+clashAt allowance s i k = cond (isPair (s .left .keys) (s .right .keys) k i) (pairClash allowance s k) none

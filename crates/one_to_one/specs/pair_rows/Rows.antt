@@ -1,44 +1,36 @@
--- The answer rows of one-to-one: the two sides of a key, each merged, under the operator. Assumes nothing.
-use Prim.Native.Nat.{ℕ, _≤_, _<_}
-use mathlib.Core.Path.{_≡_}
-use mathlib.Core.Bool.{Bool}
-use mathlib.Core.Option.{none}
+-- The answer rows of one-to-one: the two sides of a code, each merged, under the operator. Assumes nothing.
+use Prim.Native.Nat.{ℕ, _<_}
+use mathlib.Core.Bool.{Bool, cond}
 use mathlib.Core.List.{List}
-use lib.ListN.{length, getD}
+use lib.Dec.{leb}
+use lib.ListN.{length}
 use Rattle.operator.specs.declared.Operator.{Operator}
-use Rattle.model.specs.Limits.{maxSeries, maxPoints}
 use Rattle.model.specs.Reading.{scalarOp}
 use Rattle.model.specs.Row.{zipWith}
-use Rattle.plan.specs.Keys.{firstOf}
-use Rattle.plan.specs.Merging.{mergeLast, rowOf}
-use Rattle.plan.specs.Pairs.{Sides}
-use Rattle.one_to_one.specs.pairs.Pairing.{Level, failureOf}
+use Rattle.plan.specs.Merging.{RowMerge, row, failedAt}
+use Rattle.side_parts.specs.Sides.{rowAt}
+use Rattle.side_parts.specs.Lent.{Sides}
+use Rattle.merging.specs.Several.{mergeSeveral}
+use Rattle.key_ends.specs.end_codes.Codes.{leftFirst, leftLast, rightFirst, rightLast}
 
--- a side whose series of the key k become a single one
-pub record SideMerged (allowance p : ℕ) (rows keys : List ℕ) (k : ℕ) : Type 0 where
-  pub level : Level p rows keys
-  pub stands : firstOf keys k < length keys
-  pub single : failureOf (mergeLast allowance p rows keys k) ≡ none
+-- the row as merged, or as merged before the series that failed to merge
+abbrev pub soFar : RowMerge → List ℕ
+soFar (row d) = d
+soFar (failedAt i d) = d
 
--- that series' row
-abbrev pub sideRow : ℕ → ℕ → List ℕ → List ℕ → ℕ → List ℕ
-sideRow allowance p rows keys k = rowOf (mergeLast allowance p rows keys k)
+-- the row of a side by two places: that of the last, or of several the first and those between merged into the last
+abbrev pub codedSide : ℕ → ℕ → List ℕ → List ℕ → ℕ → ℕ → List ℕ
+codedSide allowance p rows keys first last =
+    cond (leb last first) (rowAt p rows last) (soFar (mergeSeveral allowance p rows keys first last))
 
--- the answer row of the key of the left place j
-abbrev pub pairedRow : Operator → Bool → ℕ → Sides → ℕ → List ℕ
-pairedRow op bool allowance s j =
+-- the answer row of a code
+abbrev pub codedRow : Operator → Bool → ℕ → Sides → ℕ → List ℕ
+codedRow op bool allowance s c =
     zipWith (scalarOp op bool)
-    (sideRow allowance (s .points) (s .leftRows) (s .leftKeys) (getD (s .leftKeys) j 0))
-    (sideRow allowance (s .points) (s .rightRows) (s .rightKeys) (getD (s .leftKeys) j 0))
+    (codedSide allowance (s .shape .points) (s .left .rows) (s .left .keys) (leftFirst c) (leftLast c))
+    (codedSide allowance (s .shape .points) (s .right .rows) (s .right .keys) (rightFirst c) (rightLast c))
 
--- a left place whose key merges on both sides
-pub record Paired (allowance : ℕ) (s : Sides) (j : ℕ) : Type 0 where
-  pub within : j < length (s .leftKeys)
-  pub lefts : SideMerged allowance (s .points) (s .leftRows) (s .leftKeys) (getD (s .leftKeys) j 0)
-  pub rights : SideMerged allowance (s .points) (s .rightRows) (s .rightKeys) (getD (s .leftKeys) j 0)
-
--- left places of which each does, no more than an answer may have series
-pub record PairedRows (allowance : ℕ) (s : Sides) (list : List ℕ) : Type 0 where
-  pub few : length list ≤ maxSeries
-  pub narrow : s .points ≤ maxPoints
-  pub each : (r : ℕ) → r < length list → Paired allowance s (getD list r 0)
+-- a code whose places stand on both sides
+pub record PairCode (s : Sides) (c : ℕ) : Type 0 where
+  pub left : leftLast c < length (s .left .keys)
+  pub right : rightLast c < length (s .right .keys)

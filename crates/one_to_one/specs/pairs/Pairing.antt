@@ -1,35 +1,27 @@
--- The pairs of one-to-one as the code has them: the sides, what is asked of them, and what is listed. Assumes nothing.
-use Prim.Native.Nat.{ℕ, _*_, _≤_}
-use mathlib.Core.Path.{_≡_}
+-- The pairs of one-to-one as the code lists them. Assumes nothing.
+use Prim.Native.Nat.{ℕ, suc}
 use mathlib.Core.Bool.{cond}
 use mathlib.Core.Option.{Option, none, some}
 use mathlib.Core.List.{List, [], _∷_}
-use lib.ListN.{length}
-use Rattle.model.specs.Limits.{maxSeries, maxPoints}
-use Rattle.plan.specs.Keys.{lastOf}
 use Rattle.plan.specs.Merging.{RowMerge, row, failedAt}
-use Rattle.plan.specs.Pairs.{Sides, isPair}
-
--- readings wide p; left rows and keys; right rows and keys
-abbrev pub sidesOf : ℕ → List ℕ → List ℕ → List ℕ → List ℕ → Sides
-sidesOf p left lkeys right rkeys =
-    record { points = p; leftRows = left; leftKeys = lkeys; rightRows = right; rightKeys = rkeys }
-
--- what is asked of a side: as many rows as keys, within the limits
-pub record Level (p : ℕ) (rows keys : List ℕ) : Type 0 where
-  pub narrow : p ≤ maxPoints
-  pub few : length keys ≤ maxSeries
-  pub whole : length rows ≡ length keys * p
-
-pub record PairSides (p : ℕ) (left lkeys right rkeys : List ℕ) : Type 0 where
-  pub lefts : Level p left lkeys
-  pub rights : Level p right rkeys
+use Rattle.plan.specs.Pairs.{isPair}
+use Rattle.side_parts.specs.Lent.{Sides}
+use Rattle.key_ends.specs.end_codes.Codes.{pairCode}
 
 -- the place of the series that failed to merge
 abbrev pub failureOf : RowMerge → Option ℕ
 failureOf (row d) = none
 failureOf (failedAt i d) = some i
 
--- the answer row of the left place i, whose key is k, if it gives one: the last left place of its key
-abbrev pub pairAt : List ℕ → List ℕ → ℕ → ℕ → List ℕ
-pairAt ks ms i k = cond (isPair ks ms k i) (lastOf ks k ∷ []) []
+-- the answer row of the left place i, whose key is k, if it gives one: the places of its key
+abbrev pub codeAt : List ℕ → List ℕ → ℕ → ℕ → List ℕ
+codeAt ks ms i k = cond (isPair ks ms k i) (pairCode ks ms k ∷ []) []
+
+-- those of the left places from i on, whose keys are `rest`
+unfoldable pub codesFrom : List ℕ → List ℕ → ℕ → List ℕ → List ℕ
+codesFrom ks ms i [] = []
+codesFrom ks ms i (k ∷ rest) = cond (isPair ks ms k i) (pairCode ks ms k ∷ codesFrom ks ms (suc i) rest) (codesFrom ks ms (suc i) rest)
+
+-- the codes of the answer, in answer order
+abbrev pub pairCodes : Sides → List ℕ
+pairCodes s = codesFrom (s .left .keys) (s .right .keys) 0 (s .left .keys)

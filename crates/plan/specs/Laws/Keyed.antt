@@ -17,14 +17,14 @@ use Rattle.semantics.specs.Rules.{onSide, ofSide, hasReadings}
 use Rattle.plan.specs.Keys.{dropped, keyed}
 
 -- a test of series told by their numbers: it holds just where the number is k
-abbrev pub Told : (Series → Bool) → ℕ → List ℕ → List Series → Type 0
-Told f k [] [] = Unit {0}
-Told f k [] (b ∷ bs) = ⊥
-Told f k (x ∷ xs) [] = ⊥
-Told f k (x ∷ xs) (b ∷ bs) = (f b ≡ eqb x k) × Told f k xs bs
+abbrev pub ToldBy : (Series → Bool) → ℕ → List ℕ → List Series → Type 0
+ToldBy f k [] [] = Unit {0}
+ToldBy f k [] (b ∷ bs) = ⊥
+ToldBy f k (x ∷ xs) [] = ⊥
+ToldBy f k (x ∷ xs) (b ∷ bs) = (f b ≡ eqb x k) × ToldBy f k xs bs
 
 -- what passes such a test, of a side numbered from i on
-pub told-keyed : (side : Side) (f : Series → Bool) (k i : ℕ) (g : ℕ → ℕ) (xs : List ℕ) (bs : List Series) → ((j : ℕ) → g j ≡ i + j) → Told f k xs bs
+pub told-keyed : (side : Side) (f : Series → Bool) (k i : ℕ) (g : ℕ → ℕ) (xs : List ℕ) (bs : List Series) → ((j : ℕ) → g j ≡ i + j) → ToldBy f k xs bs
     → keep (λ x. f (x .series)) (numbered side g bs) ≡ keyed side k i xs bs
 unfolding keyed
 told-keyed side f k i g [] [] h t = refl
@@ -86,8 +86,8 @@ seenBy q drops b c = sameKey q (b .labels) (c .labels) && takesPart drops c
 -- a series b with the number k: what it sees is told by the numbers, unless it takes no part
 pub record Sees (q : Query) (drops : Bool) (ls rs : List Series) (ks ms : List ℕ) (b : Series) (k : ℕ) : Type 0 where
   pub takes : takesPart drops b ≡ not (eqb k dropped)
-  pub lefts : takesPart drops b ≡ true → Told (seenBy q drops b) k ks ls
-  pub rights : takesPart drops b ≡ true → Told (seenBy q drops b) k ms rs
+  pub lefts : takesPart drops b ≡ true → ToldBy (seenBy q drops b) k ks ls
+  pub rights : takesPart drops b ≡ true → ToldBy (seenBy q drops b) k ms rs
 
 abbrev pub EachSees : (Series → ℕ → Type 0) → List Series → List ℕ → Type 0
 EachSees P [] [] = Unit {0}
@@ -119,7 +119,8 @@ module _ (q : Query) (ls rs : List Series) (ks ms : List ℕ) (b : Series) (k : 
   -- the others see all
   module _ (s : Sees q false ls rs ks ms b k) where
     all-seen : ofKey q (b .labels) (placed ls rs) ≡ keep (λ x. seenBy q false b (x .series)) (placed ls rs)
-    all-seen = keep-cong (λ x. sameKey q (b .labels) (x .series .labels)) (λ x. seenBy q false b (x .series)) (placed ls rs) (All-each (λ x. sym (and-true (sameKey q (b .labels) (x .series .labels)))) (placed ls rs))
+    all-seen = keep-cong (λ x. sameKey q (b .labels) (x .series .labels)) (λ x. seenBy q false b (x .series)) (placed ls rs)
+        (All-each (λ x. sym (and-true (sameKey q (b .labels) (x .series .labels)))) (placed ls rs))
 
     pub all-lefts : ofSide left (ofKey q (b .labels) (placed ls rs)) ≡ keyed left k 0 ks ls
     all-lefts =

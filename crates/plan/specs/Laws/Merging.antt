@@ -18,8 +18,9 @@ use Rattle.model.specs.Vector.{Series, readingsOf}
 use Rattle.semantics.specs.Places.{Place, Placed}
 use Rattle.semantics.specs.Rules as Rules
 use Rattle.semantics.specs.Rules.{Merged, one, withRow, mergedInto, onMerged, absorbed, earlierOnes, mergedIntoLast}
+use Rattle.side_parts.specs.Sides.{rowAt}
 use Rattle.plan.specs.Keys.{firstOf, lastFrom, lastOf, keyed}
-use Rattle.plan.specs.Merging.{rowAt, RowMerge, row, failedAt, onRow, mergeGroup, mergeLast, mergeLead}
+use Rattle.plan.specs.Merging.{RowMerge, row, failedAt, onRow, mergeGroup, mergeLast, mergeLead}
 use Rattle.plan.specs.Laws.Common.{noSeries, zero-plus}
 
 -- the rows of series, from the place i on, stand in one array
@@ -32,7 +33,8 @@ unfolding readingsOf
 rows-behind p i front [] h w = tt
 rows-behind p i front (b ∷ bs) h w = (
   rw (← h, drop-append-seam front (b .row ++ readingsOf bs), ← (w .0)) (take-append-seam (b .row) (readingsOf bs)),
-  rw (← (append-assoc front (b .row) (readingsOf bs))) (rows-behind p (suc i) (front ++ b .row) bs (length-append front (b .row) ∙ (omega (arith, h, w .0))) (w .1)),
+  rw (← (append-assoc front (b .row) (readingsOf bs)))
+      (rows-behind p (suc i) (front ++ b .row) bs (length-append front (b .row) ∙ (omega (arith, h, w .0))) (w .1)),
 )
 
 -- so do those of a side
@@ -74,7 +76,8 @@ module _ (allowance p : ℕ) (rows : List ℕ) (side : Side) (g : ℕ) (k : Plac
           ≡ onMerged (withRow b (merged allowance (b .row) (c .row))) refusal (λ d. absorbed allowance k d (keyed side g (suc i) gs bs))
       unfolded = unfold mergedInto in refl
 
-      go : ((d : Series) → absorbed allowance k d (keyed side g (suc i) gs bs) ≡ mergedAs (k .place) (d .labels) side (mergeGroup allowance p rows g (suc i) gs (d .row)))
+      go : ((d : Series) → absorbed allowance k d (keyed side g (suc i) gs bs)
+          ≡ mergedAs (k .place) (d .labels) side (mergeGroup allowance p rows g (suc i) gs (d .row)))
           → (o : Option (List ℕ))
           → onMerged (withRow b o) refusal (λ d. absorbed allowance k d (keyed side g (suc i) gs bs))
           ≡ mergedAs (k .place) (b .labels) side (onRow o (failedAt i (b .row)) (mergeGroup allowance p rows g (suc i) gs))
@@ -86,14 +89,17 @@ pub absorbed-relabelled : (allowance : ℕ) (k : Placed) (f : Series → Series)
     → absorbed allowance k b (map (λ x. record { place = x .place; series = f (x .series) }) xs) ≡ absorbed allowance k b xs
 absorbed-relabelled allowance k f h [] b = refl
 absorbed-relabelled allowance k f h (x ∷ xs) b =
-    ap (λ o. onMerged o (Rules.clash (record { kept = k .place; failed = x .place })) (λ c. absorbed allowance k c (map (λ y. record { place = y .place; series = f (y .series) }) xs))) same
+    ap (λ o. onMerged o (Rules.clash (record { kept = k .place; failed = x .place }))
+    (λ c. absorbed allowance k c (map (λ y. record { place = y .place; series = f (y .series) }) xs))) same
     ∙ go (mergedInto allowance b (x .series)) (absorbed-relabelled allowance k f h xs)
   where
     same : mergedInto allowance b (f (x .series)) ≡ mergedInto allowance b (x .series)
     same = unfold mergedInto in rw (h (x .series))
 
-    go : (o : Option Series) → ((c : Series) → absorbed allowance k c (map (λ y. record { place = y .place; series = f (y .series) }) xs) ≡ absorbed allowance k c xs)
-        → onMerged o (Rules.clash (record { kept = k .place; failed = x .place })) (λ c. absorbed allowance k c (map (λ y. record { place = y .place; series = f (y .series) }) xs))
+    go : (o : Option Series) →
+        ((c : Series) → absorbed allowance k c (map (λ y. record { place = y .place; series = f (y .series) }) xs) ≡ absorbed allowance k c xs)
+        → onMerged o (Rules.clash (record { kept = k .place; failed = x .place }))
+        (λ c. absorbed allowance k c (map (λ y. record { place = y .place; series = f (y .series) }) xs))
         ≡ onMerged o (Rules.clash (record { kept = k .place; failed = x .place })) (λ c. absorbed allowance k c xs)
     go none ih = refl
     go (some c) ih = ih c
@@ -110,7 +116,8 @@ module _ (side : Side) (k : ℕ) where
   none-last i (x ∷ ks) [] e h found = absurd (omega (arith, e))
   none-last i (x ∷ ks) (b ∷ bs) e h found = go (λ h. none-last (suc i) ks bs (omega (arith, e)) h found) (eqb x k) h
     where
-      go : (keyed side k (suc i) ks bs ≡ [] → lastFrom found (suc i) ks k ≡ found) → (t : Bool) → cond t (record { place = record { side = side; number = i }; series = b } ∷ keyed side k (suc i) ks bs) (keyed side k (suc i) ks bs) ≡ []
+      go : (keyed side k (suc i) ks bs ≡ [] → lastFrom found (suc i) ks k ≡ found) → (t : Bool)
+          → cond t (record { place = record { side = side; number = i }; series = b } ∷ keyed side k (suc i) ks bs) (keyed side k (suc i) ks bs) ≡ []
           → lastFrom (cond t i found) (suc i) ks k ≡ found
       go ih true h = no-head _ _ (sym h)
       go ih false h = ih h
@@ -127,7 +134,8 @@ module _ (side : Side) (k : ℕ) where
   unfolding keyed
   nothing-before i = refl
 
-  pub last-of : (i : ℕ) (ks : List ℕ) (bs : List Series) → length ks ≡ length bs → (y : Placed) (ys : List Placed) → keyed side k i ks bs ≡ y ∷ ys → LastOf i ks bs y ys
+  pub last-of : (i : ℕ) (ks : List ℕ) (bs : List Series) → length ks ≡ length bs → (y : Placed) (ys : List Placed) → keyed side k i ks bs ≡ y ∷ ys
+      → LastOf i ks bs y ys
   unfolding keyed lastFrom
   last-of i [] bs e y ys h = no-head y ys h
   last-of i (x ∷ ks) [] e y ys h = absurd (omega (arith, e))
@@ -200,7 +208,8 @@ module _ (side : Side) (k : ℕ) where
   first-of i (x ∷ ks) (b ∷ bs) y ys h = go (first-of (suc i) ks bs y ys) (eqb x k) refl h
     where
       go : (keyed side k (suc i) ks bs ≡ y ∷ ys → FirstOf (suc i) ks y) → (t : Bool) → eqb x k ≡ t
-          → cond t (record { place = record { side = side; number = i }; series = b } ∷ keyed side k (suc i) ks bs) (keyed side k (suc i) ks bs) ≡ y ∷ ys → FirstOf i (x ∷ ks) y
+          → cond t (record { place = record { side = side; number = i }; series = b } ∷ keyed side k (suc i) ks bs) (keyed side k (suc i) ks bs)
+          ≡ y ∷ ys → FirstOf i (x ∷ ks) y
       go ih true f h =
           let hy : y ≡ record { place = record { side = side; number = i }; series = b } = cc in
           let z : i ≡ i + 0 = omega arith in
@@ -217,7 +226,8 @@ module _ (side : Side) (k : ℕ) where
   first-none i (x ∷ ks) (b ∷ bs) e h = go (first-none (suc i) ks bs (omega (arith, e))) (eqb x k) refl h
     where
       go : (keyed side k (suc i) ks bs ≡ [] → firstOf ks k ≡ length ks) → (t : Bool) → eqb x k ≡ t
-          → cond t (record { place = record { side = side; number = i }; series = b } ∷ keyed side k (suc i) ks bs) (keyed side k (suc i) ks bs) ≡ [] → cond (eqb x k) 0 (suc (firstOf ks k)) ≡ suc (length ks)
+          → cond t (record { place = record { side = side; number = i }; series = b } ∷ keyed side k (suc i) ks bs) (keyed side k (suc i) ks bs) ≡ []
+          → cond (eqb x k) 0 (suc (firstOf ks k)) ≡ suc (length ks)
       go ih true f h = no-head _ _ (sym h)
       go ih false f h = rw f (ap suc (ih h))
 
@@ -246,7 +256,14 @@ merged-last allowance p rows side k ks bs e r y ys h =
     let kept : Placed = record { place = record { side = side; number = 0 + j }; series = b } in
     let at : lastOf ks k ≡ j = l .index (length ks) ∙ (omega arith) in
     let lead : rowAt p rows j ≡ b .row = sym (ap (rowAt p rows) (zero-plus j)) ∙ row-at p rows 0 bs r j (omega (arith, l .within, e)) in
-    rw (l .last, l .earlier, absorbed-group allowance p rows side k kept 0 (take j ks) (take j bs) b (length-take-level j ks bs e) (RowsAt-take p rows 0 j bs r), at, lead)
+    rw (
+      l .last,
+      l .earlier,
+      absorbed-group allowance p rows side k kept 0 (take j ks) (take j bs) b (length-take-level j ks bs e)
+          (RowsAt-take p rows 0 j bs r),
+      at,
+      lead,
+    )
     (ap (λ n. mergedAs (record { side = side; number = n }) (b .labels) side (mergeGroup allowance p rows k 0 (take j ks) (b .row))) (zero-plus j))
 
 -- the row that merges come to is as wide as the row merged into
@@ -260,7 +277,9 @@ module _ (allowance p : ℕ) (rows : List ℕ) (w : ℕ) where
   group-wide g [] i d h = h
   group-wide g (x ∷ groups) i d h = go (λ e k. group-wide g groups (suc i) e k) (eqb x g) (leb (length d) 2 || ltb allowance (overlaps d (rowAt p rows i)))
     where
-      go : ((e : List ℕ) → length e ≡ w → WideAs w (mergeGroup allowance p rows g (suc i) groups e)) → (b c : Bool) → WideAs w (cond b (onRow (cond c none (some (overwritten d (rowAt p rows i)))) (failedAt i d) (mergeGroup allowance p rows g (suc i) groups)) (mergeGroup allowance p rows g (suc i) groups d))
+      go : ((e : List ℕ) → length e ≡ w → WideAs w (mergeGroup allowance p rows g (suc i) groups e)) → (b c : Bool)
+          → WideAs w (cond b (onRow (cond c none (some (overwritten d (rowAt p rows i)))) (failedAt i d)
+          (mergeGroup allowance p rows g (suc i) groups)) (mergeGroup allowance p rows g (suc i) groups d))
       go ih false c = ih d h
       go ih true true = tt
       go ih true false = ih (overwritten d (rowAt p rows i)) (overwritten-wide d (rowAt p rows i) ∙ h)

@@ -16,7 +16,7 @@ use Rattle.model.specs.Query.{Query, sameKey, keyOf}
 use Rattle.model.specs.Vector.{Series}
 use Rattle.semantics.specs.Rules.{hasReadings}
 use Rattle.plan.specs.Keys.{dropped}
-use Rattle.plan.specs.Laws.Keyed.{Told, seenBy, EachSees, Numbers}
+use Rattle.plan.specs.Laws.Keyed.{ToldBy, seenBy, EachSees, Numbers}
 use Rattle.plan.specs.Laws.Common.{noSeries, eqb-sym}
 
 -- equal numbers exactly where keys are equal, over both sides; and numbers of keys are below that of dropped series
@@ -49,13 +49,15 @@ key-sym q a b =
 
 -- from places to lists
 
-told-by : (f : Series → Bool) (k : ℕ) (xs : List ℕ) (bs : List Series) → length xs ≡ length bs → ((j : ℕ) → j < length bs → f (getD bs j noSeries) ≡ eqb (getD xs j 0) k) → Told f k xs bs
+told-by : (f : Series → Bool) (k : ℕ) (xs : List ℕ) (bs : List Series) → length xs ≡ length bs
+    → ((j : ℕ) → j < length bs → f (getD bs j noSeries) ≡ eqb (getD xs j 0) k) → ToldBy f k xs bs
 told-by f k [] [] e h = tt
 told-by f k [] (b ∷ bs) e h = absurd (omega (arith, e))
 told-by f k (x ∷ xs) [] e h = absurd (omega (arith, e))
 told-by f k (x ∷ xs) (b ∷ bs) e h = (h 0 (omega arith), told-by f k xs bs (omega (arith, e)) (λ j w. h (suc j) (omega (arith, w))))
 
-each-by : (P : Series → ℕ → Type 0) (bs : List Series) (xs : List ℕ) → length xs ≡ length bs → ((j : ℕ) → j < length bs → P (getD bs j noSeries) (getD xs j 0)) → EachSees P bs xs
+each-by : (P : Series → ℕ → Type 0) (bs : List Series) (xs : List ℕ) → length xs ≡ length bs
+    → ((j : ℕ) → j < length bs → P (getD bs j noSeries) (getD xs j 0)) → EachSees P bs xs
 each-by P [] [] e h = tt
 each-by P [] (x ∷ xs) e h = absurd (omega (arith, e))
 each-by P (b ∷ bs) [] e h = absurd (omega (arith, e))
@@ -70,7 +72,8 @@ module _ (q : Query) where
 
   -- all series take part
 
-  seen-all : (cs bs : List Series) (xs ys : List ℕ) → length ys ≡ length bs → TellsKeys q cs bs xs ys → (i : ℕ) → i < length cs → Told (seenBy q false (getD cs i noSeries)) (getD xs i 0) ys bs
+  seen-all : (cs bs : List Series) (xs ys : List ℕ) → length ys ≡ length bs → TellsKeys q cs bs xs ys → (i : ℕ) → i < length cs
+      → ToldBy (seenBy q false (getD cs i noSeries)) (getD xs i 0) ys bs
   seen-all cs bs xs ys e t i h =
       told-by (seenBy q false (getD cs i noSeries)) (getD xs i 0) ys bs e
       (λ j w. and-true (sameKey q (getD cs i noSeries .labels) (getD bs j noSeries .labels)) ∙ sym (t .tells i j h w) ∙ eqb-sym (getD xs i 0) (getD ys j 0))
@@ -102,7 +105,8 @@ module _ (q : Query) where
   dropped-length (k ∷ ks) [] e = absurd (omega (arith, e))
   dropped-length (k ∷ ks) (b ∷ bs) e = ap suc (dropped-length ks bs (omega (arith, e)))
 
-  dropped-at : (ks : List ℕ) (bs : List Series) → length ks ≡ length bs → (j : ℕ) → j < length bs → getD (droppedKeys ks bs) j 0 ≡ cond (onlyMissing (getD bs j noSeries .row)) dropped (getD ks j 0)
+  dropped-at : (ks : List ℕ) (bs : List Series) → length ks ≡ length bs → (j : ℕ) → j < length bs
+      → getD (droppedKeys ks bs) j 0 ≡ cond (onlyMissing (getD bs j noSeries .row)) dropped (getD ks j 0)
   unfolding droppedKeys
   dropped-at [] [] e j h = absurd (omega (arith, h))
   dropped-at [] (b ∷ bs) e j h = absurd (omega (arith, e))
@@ -125,7 +129,8 @@ module _ (q : Query) where
 
   seen-kept : (cs bs : List Series) (xs ys : List ℕ) → length xs ≡ length cs → length ys ≡ length bs → TellsKeys q cs bs xs ys
       → ((i : ℕ) → i < length cs → getD xs i 0 < dropped) → ((i : ℕ) → i < length bs → getD ys i 0 < dropped)
-      → (i : ℕ) → i < length cs → hasReadings (getD cs i noSeries) ≡ true → Told (seenBy q true (getD cs i noSeries)) (getD (droppedKeys xs cs) i 0) (droppedKeys ys bs) bs
+      → (i : ℕ) → i < length cs → hasReadings (getD cs i noSeries) ≡ true
+      → ToldBy (seenBy q true (getD cs i noSeries)) (getD (droppedKeys xs cs) i 0) (droppedKeys ys bs) bs
   seen-kept cs bs xs ys ea eb t la lb i h part =
       told-by (seenBy q true (getD cs i noSeries)) (getD (droppedKeys xs cs) i 0) (droppedKeys ys bs) bs (dropped-length ys bs eb)
       (λ j w. rw (dropped-at xs cs ea i h, dropped-at ys bs eb j w)

@@ -6,30 +6,38 @@ use mathlib.Core.Option.{Option, none, some}
 use mathlib.Core.List.{List, [], _∷_, _++_, map}
 use native.Mathlib.Omega.{arith}
 use lib.Dec.{eqb}
-use lib.ListN.{length, getD}
-use lib.Seq.{getD-take, getD-drop}
+use lib.ListN.{length, getD, List·getD-append}
+use lib.Seq.{getD-take, getD-drop, getD-append-add}
 use borrow.Author.Tests.{eq-eqb, ne-eqb, lt-ltb, le-ltb}
-use Rattle.operator.specs.Kinds.{SetRule, whereFound, whereNone, filled, setRule, fallback, kindOf}
+use Rattle.operator.specs.Kinds.{SetRule, whereFound, whereNone, filled, Kind, arithmetic, comparison, setRule, fallback, notCarried, kindOf}
+use Rattle.operator.specs.Operators.{isLogicalOp, joinsSets}
 use Rattle.model.specs.Lists.{cases, All, isEmpty, gather}
+use Rattle.model.specs.Laws.Booleans.{never}
 use Rattle.model.specs.Laws.Lists.{gather-append, map-append}
 use Rattle.model.specs.Reading.{missing, noReading}
 use Rattle.model.specs.Row.{onlyMissing}
 use Rattle.model.specs.Query.{Query, Side, left, right}
-use Rattle.model.specs.Vector.{Series, Shape, readingsOf}
+use Rattle.model.specs.Labels.{Labels}
+use Rattle.model.specs.Vector.{Series, Shape}
 use Rattle.semantics.specs.Places.{Place, Placed, Rank, numbered, placed}
 use Rattle.semantics.specs.Events.{Event, Ranked, mark, Rule, ofKey, emission, events, settle}
 use Rattle.semantics.specs.Rules.{ofSide, optional, leftResult, rightResult}
-use Rattle.semantics.specs.Binop.{Found, firstReading, someReading, setReading, pointwise, staying, met, alone, adds, Seen, isBare, scalarSide, look, unmatched, setRuleBy, ruleOf}
+use Rattle.semantics.specs.Binop.{Found, firstReading, someReading, setReading, pointwise, staying, met, alone, adds}
+use Rattle.semantics.specs.Binop.{Seen, isBare, scalarSide, look, unmatched, setRuleBy, ruleOf}
 use Rattle.semantics.specs.Call.{concluded, verdict}
 use Rattle.plan.specs.Keys.{firstOf, keyed}
-use Rattle.plan.specs.Merging.{rowAt}
+use Rattle.side_parts.specs.Sides.{rowAt}
+use Rattle.side_parts.specs.Lent.{Sides, BothHeld, sideLabels, sideSeries}
 use Rattle.plan.specs.Conclude.{conclude}
 use Rattle.plan.specs.Pairs.{noLabels}
-use Rattle.plan.specs.Sets.{SetSides, placesOf, metPlaces, firstAt, setPoint, setRow, dropsEmpty, leftRow, leftAnswers, leftsFrom, rightsFrom, setRows, setSeries}
-use Rattle.plan.specs.Laws.Settling.{firstClash, goodSeries, firstOver, first-append, clash-gather, good-gather, clash-produced, good-produced, settled-concludes}
+use Rattle.plan.specs.Sets.{SetWork, setWork, isScalar, workFor, placesOf, metPlaces, firstAt, setPoint, setRow, dropsEmpty}
+use Rattle.plan.specs.Sets.{leftRow, leftAnswers, leftsFrom, rightsFrom, setRows, setLabels, setSeries, setOutcome}
+use Rattle.plan.specs.Laws.Settling.{firstClash, goodSeries, firstOver, first-append, clash-gather, good-gather}
+use Rattle.plan.specs.Laws.Settling.{clash-produced, good-produced, settled-concludes}
 use Rattle.plan.specs.Laws.Keyed.{Sees, EachSees, Numbers, all-lefts, all-rights}
 use Rattle.plan.specs.Laws.Merging.{RowsAt, row-at, first-of, first-none}
-use Rattle.plan.specs.Laws.Common.{noSeries, labelsOfSide, getD-labels, zero-plus, From, from-all, from-next, from-here}
+use Rattle.plan.specs.Laws.Sides.{StandsFor, held-stands}
+use Rattle.plan.specs.Laws.Common.{noSeries, labelsOfSide, getD-labels, labels-length, zero-plus, From, from-all, from-next, from-here}
 
 -- right series by their places in one array
 
@@ -75,7 +83,8 @@ first-at p rows i h (x ∷ xs) s =
     (λ e. rw (same, e, first-at p rows i h xs (s .1)))
     (λ e. rw (same, e))
 
-point-is : (rule : SetRule) (o : Option Found) (x : ℕ) (xs : List Placed) (i : ℕ) → firstReading xs i ≡ o → setReading rule xs i x ≡ setPoint rule (readingOf o) x
+point-is : (rule : SetRule) (o : Option Found) (x : ℕ) (xs : List Placed) (i : ℕ) → firstReading xs i ≡ o
+    → setReading rule xs i x ≡ setPoint rule (readingOf o) x
 unfolding someReading
 point-is whereFound none x xs i h = rw h
 point-is whereFound (some f) x xs i h = rw h
@@ -103,7 +112,8 @@ unfolding setRow
 set-row-is rule p rows xs s row h = row-is rule p rows xs s 0 row (omega (arith, h))
 
 -- what stays of a matched series
-stay-series : (r : Place) (rule : SetRule) (c : Series) → goodSeries (mark r (optional (staying rule c))) ≡ cond (not (dropsEmpty rule && onlyMissing (c .row))) (c ∷ []) []
+stay-series : (r : Place) (rule : SetRule) (c : Series)
+    → goodSeries (mark r (optional (staying rule c))) ≡ cond (not (dropsEmpty rule && onlyMissing (c .row))) (c ∷ []) []
 stay-series r whereFound c = cases (onlyMissing (c .row)) (λ e. rw e) (λ e. rw e)
 stay-series r whereNone c = cases (onlyMissing (c .row)) (λ e. rw e) (λ e. rw e)
 stay-series r filled c = refl
@@ -112,16 +122,30 @@ optional-clash : (r : Place) (o : Option Series) → firstClash (mark r (optiona
 optional-clash r none = refl
 optional-clash r (some c) = refl
 
-met-series : (r : Place) (rule : SetRule) (p : ℕ) (rows : List ℕ) (b : Series) (y : Placed) (ys : List Placed) → Stand p rows (y ∷ ys) → length (b .row) ≡ p
-    → goodSeries (mark r (optional (met rule b (y ∷ ys))))
-    ≡ cond (leftAnswers rule p rows (numbersOf (y ∷ ys)) (b .row)) (record { labels = b .labels; row = leftRow rule p rows (numbersOf (y ∷ ys)) (b .row) } ∷ []) []
+-- a place of a side, and a series there
+abbrev on : Side → ℕ → Place
+on side i = record { side = side; number = i }
+
+abbrev at : Side → ℕ → Series → Placed
+at side i b = record { place = on side i; series = b }
+
+-- a left series as it is in the answer, where it is, by the right places that it meets
+abbrev leftAs : SetRule → ℕ → List ℕ → List ℕ → Series → Series
+leftAs rule p rows places b = record { labels = b .labels; row = leftRow rule p rows places (b .row) }
+
+abbrev leftKept : SetRule → ℕ → List ℕ → List ℕ → Series → List Series
+leftKept rule p rows places b = cond (leftAnswers rule p rows places (b .row)) (leftAs rule p rows places b ∷ []) []
+
+met-series : (r : Place) (rule : SetRule) (p : ℕ) (rows : List ℕ) (b : Series) (y : Placed) (ys : List Placed) → Stand p rows (y ∷ ys)
+    → length (b .row) ≡ p → goodSeries (mark r (optional (met rule b (y ∷ ys)))) ≡ leftKept rule p rows (numbersOf (y ∷ ys)) b
 unfolding met numbersOf
 met-series r rule p rows b y ys s h =
-    ap (λ t. goodSeries (mark r (optional (staying rule (record { labels = b .labels; row = t }))))) (set-row-is rule p rows (y ∷ ys) s (b .row) h)
+    ap (λ t. goodSeries (mark r (optional (staying rule (record { labels = b .labels; row = t })))))
+    (set-row-is rule p rows (y ∷ ys) s (b .row) h)
     ∙ stay-series r rule (record { labels = b .labels; row = setRow rule p rows (numbersOf (y ∷ ys)) (b .row) })
 
 alone-series : (r : Place) (rule : SetRule) (p : ℕ) (rows : List ℕ) (b : Series)
-    → goodSeries (mark r (optional (alone rule b))) ≡ cond (leftAnswers rule p rows [] (b .row)) (record { labels = b .labels; row = leftRow rule p rows [] (b .row) } ∷ []) []
+    → goodSeries (mark r (optional (alone rule b))) ≡ leftKept rule p rows [] b
 alone-series r whereFound p rows b = refl
 alone-series r whereNone p rows b = refl
 alone-series r filled p rows b = refl
@@ -131,63 +155,73 @@ pub data FallsTo : Bool → Option Series → List Series → Type 0 where
   nowhere : (rs : List Series) → FallsTo false none rs
   onlyOne : (r : Series) → FallsTo true (some r) (r ∷ [])
 
-width-at : (p : ℕ) (bs : List Series) → All (λ b. length (b .row) ≡ p) bs → (j : ℕ) → j < length bs → length (getD bs j noSeries .row) ≡ p
+width-at : (p : ℕ) (bs : List Series) → All (λ b. length (b .row) ≡ p) bs → (j : ℕ) → j < length bs
+    → length (getD bs j noSeries .row) ≡ p
 width-at p [] w j h = absurd (omega (arith, h))
 width-at p (b ∷ bs) w zero h = w .0
 width-at p (b ∷ bs) w (suc j) h = width-at p bs (w .1) j (omega (arith, h))
 
-module _ (q : Query) (rule : SetRule) (p : ℕ) (ls rs : List Series) (ks ms : List ℕ) (sameLeft : length ks ≡ length ls) (sameRight : length ms ≡ length rs)
-    (widths : All (λ b. length (b .row) ≡ p) ls) (rowsLeft : RowsAt p (readingsOf ls) 0 ls) (rowsRight : RowsAt p (readingsOf rs) 0 rs)
+module _ (q : Query) (rule : SetRule) (sides : Sides) (ls rs : List Series)
+    (lefts : StandsFor (sides .shape .points) (sides .left) ls) (rights : StandsFor (sides .shape .points) (sides .right) rs)
     (falls : Bool) (seen : Seen) (fallsTo : FallsTo falls (seen .fallbackTo) rs) where
+  abbrev p : ℕ
+  p = sides .shape .points
+
+  abbrev ks : List ℕ
+  ks = sides .left .keys
+
+  abbrev ms : List ℕ
+  ms = sides .right .keys
+
   abbrev adding : Bool
   adding = adds rule && seen .addsRight
 
-  abbrev sides : SetSides
-  sides =
-      record {
-        points = p;
-        rule = rule;
-        falls = falls;
-        adds = adding;
-        leftLabels = labelsOfSide ls;
-        leftKeys = ks;
-        leftRows = readingsOf ls;
-        rightLabels = labelsOfSide rs;
-        rightKeys = ms;
-        rightRows = readingsOf rs;
-      }
+  abbrev work : SetWork
+  work = setWork rule falls (seen .addsRight)
+
+  left-many : length (sideLabels (sides .left)) ≡ length ks
+  left-many = ap length (lefts .labels) ∙ labels-length ls ∙ sym (lefts .count)
+
+  row-of : (rows : List ℕ) (bs : List Series) → RowsAt p rows 0 bs → (b : Series) (i : ℕ) → i < length bs → getD bs i noSeries ≡ b
+      → rowAt p rows i ≡ b .row
+  row-of rows bs at b i h hb = sym (ap (rowAt p rows) (zero-plus i)) ∙ row-at p rows 0 bs at i h ∙ ap (λ c. c .row) hb
 
   -- a left series, by the right series of its key
 
-  only-met : (r : Place) (b : Series) → length (b .row) ≡ p → (f : Bool) (o : Option Series) (cs : List Series) → FallsTo f o cs → RowsAt p (readingsOf rs) 0 cs
-      → goodSeries (mark r (optional (unmatched rule o b)))
-      ≡ cond (leftAnswers rule p (readingsOf rs) (cond f (0 ∷ []) []) (b .row)) (record { labels = b .labels; row = leftRow rule p (readingsOf rs) (cond f (0 ∷ []) []) (b .row) } ∷ []) []
+  only-met : (r : Place) (b : Series) → length (b .row) ≡ p → (f : Bool) (o : Option Series) (cs : List Series) → FallsTo f o cs
+      → RowsAt p (sides .right .rows) 0 cs
+      → goodSeries (mark r (optional (unmatched rule o b))) ≡ leftKept rule p (sides .right .rows) (cond f (0 ∷ []) []) b
   unfolding numbersOf
-  only-met r b w _ _ _ (nowhere cs) h = alone-series r rule p (readingsOf rs) b
+  only-met r b w _ _ _ (nowhere cs) h = alone-series r rule p (sides .right .rows) b
   only-met r b w _ _ _ (onlyOne c) h =
-      met-series r rule p (readingsOf rs) b (record { place = record { side = right; number = 0 }; series = c }) [] (h .0, tt) w
+      met-series r rule p (sides .right .rows) b (at right 0 c) [] (h .0, tt) w
 
   left-series : (r : Place) (b : Series) (k : ℕ) → length (b .row) ≡ p → (zs : List Placed) → keyed right k 0 ms rs ≡ zs
       → goodSeries (mark r (leftResult (unmatched rule (seen .fallbackTo)) (met rule) b zs))
-      ≡ cond (leftAnswers rule p (readingsOf rs) (metPlaces falls ms k) (b .row)) (record { labels = b .labels; row = leftRow rule p (readingsOf rs) (metPlaces falls ms k) (b .row) } ∷ []) []
+      ≡ leftKept rule p (sides .right .rows) (metPlaces falls ms k) b
   unfolding numbersOf
   left-series r b k w [] h =
-      let none-met : placesOf k 0 ms ≡ [] = sym (keyed-places right k 0 ms rs sameRight) ∙ ap (λ l. map (λ x. x .place .number) l) h in
-      rw none-met (only-met r b w falls (seen .fallbackTo) rs fallsTo rowsRight)
+      let none-met : placesOf k 0 ms ≡ [] = sym (keyed-places right k 0 ms rs (rights .count)) ∙ ap (λ l. map (λ x. x .place .number) l) h in
+      rw none-met (only-met r b w falls (seen .fallbackTo) rs fallsTo (rights .rows))
   left-series r b k w (y ∷ ys) h =
-      let some-met : placesOf k 0 ms ≡ map (λ x. x .place .number) (y ∷ ys) = sym (keyed-places right k 0 ms rs sameRight) ∙ ap (λ l. map (λ x. x .place .number) l) h in
-      rw some-met (met-series r rule p (readingsOf rs) b y ys (rw h at (keyed-stand p (readingsOf rs) right k 0 ms rs rowsRight)) w)
+      let some-met : placesOf k 0 ms ≡ map (λ x. x .place .number) (y ∷ ys) =
+      sym (keyed-places right k 0 ms rs (rights .count)) ∙ ap (λ l. map (λ x. x .place .number) l) h in
+      let stand = rw h at (keyed-stand p (sides .right .rows) right k 0 ms rs (rights .rows)) in
+      rw some-met (met-series r rule p (sides .right .rows) b y ys stand w)
 
-  left-clash : (r : Place) (b : Series) (zs : List Placed) → firstClash (mark r (leftResult (unmatched rule (seen .fallbackTo)) (met rule) b zs)) ≡ none
+  left-clash : (r : Place) (b : Series) (zs : List Placed)
+      → firstClash (mark r (leftResult (unmatched rule (seen .fallbackTo)) (met rule) b zs)) ≡ none
   left-clash r b [] = optional-clash r (unmatched rule (seen .fallbackTo) b)
   left-clash r b (y ∷ ys) = optional-clash r (met rule b (y ∷ ys))
 
   left-is : (b : Series) (i k : ℕ) → i < length ks → getD ls i noSeries ≡ b → getD ks i 0 ≡ k
-      → setSeries sides i ≡ record { labels = b .labels; row = leftRow rule p (readingsOf rs) (metPlaces falls ms k) (b .row) }
+      → setSeries work sides i ≡ leftAs rule p (sides .right .rows) (metPlaces falls ms k) b
   unfolding setSeries
   left-is b i k h hb hk =
-      let stands : rowAt p (readingsOf ls) i ≡ b .row = sym (ap (rowAt p (readingsOf ls)) (zero-plus i)) ∙ row-at p (readingsOf ls) 0 ls rowsLeft i (omega (arith, h, sameLeft)) ∙ ap (λ c. c .row) hb in
-      let labels : getD (labelsOfSide ls) i noLabels ≡ b .labels = getD-labels ls i ∙ ap (λ c. c .labels) hb in
+      let stands : rowAt p (sides .left .rows) i ≡ b .row = row-of (sides .left .rows) ls (lefts .rows) b i (omega (arith, h, lefts .count)) hb in
+      let labels : setLabels sides i ≡ b .labels =
+      List·getD-append (sideLabels (sides .left)) (sideLabels (sides .right)) noLabels i (omega (arith, h, left-many))
+      ∙ ap (λ (l : List Labels). getD l i noLabels) (lefts .labels) ∙ getD-labels ls i ∙ ap (λ c. c .labels) hb in
       rw (lt-ltb i (length ks) h, hk, stands, labels)
 
   -- a right series, by the left series of its key
@@ -199,15 +233,19 @@ module _ (q : Query) (rule : SetRule) (p : ℕ) (ls rs : List Series) (ks ms : L
 
   right-series : (r : Place) (b : Series) (k : ℕ) (xs : List Placed) → keyed left k 0 ks ls ≡ xs
       → goodSeries (mark r (rightResult b xs)) ≡ cond (eqb (firstOf ks k) (length ks)) (b ∷ []) []
-  right-series r b k [] h = rw (eq-eqb (firstOf ks k) (length ks) (first-none left k 0 ks ls sameLeft h))
+  right-series r b k [] h = rw (eq-eqb (firstOf ks k) (length ks) (first-none left k 0 ks ls (lefts .count) h))
   right-series r b k (y ∷ ys) h = rw (ne-eqb (firstOf ks k) (length ks) (λ e. let f = first-of left k 0 ks ls y ys h in omega (arith, e, f .within)))
 
-  right-is : (b : Series) (j : ℕ) → j < length ms → getD rs j noSeries ≡ b → setSeries sides (length ks + j) ≡ b
+  right-is : (b : Series) (j : ℕ) → j < length ms → getD rs j noSeries ≡ b → setSeries work sides (length ks + j) ≡ b
   unfolding setSeries
   right-is b j h hb =
       let behind : length ks + j - length ks ≡ j = omega arith in
-      let stands : rowAt p (readingsOf rs) j ≡ b .row = sym (ap (rowAt p (readingsOf rs)) (zero-plus j)) ∙ row-at p (readingsOf rs) 0 rs rowsRight j (omega (arith, h, sameRight)) ∙ ap (λ c. c .row) hb in
-      let labels : getD (labelsOfSide rs) j noLabels ≡ b .labels = getD-labels rs j ∙ ap (λ c. c .labels) hb in
+      let stands : rowAt p (sides .right .rows) j ≡ b .row =
+      row-of (sides .right .rows) rs (rights .rows) b j (omega (arith, h, rights .count)) hb in
+      let labels : setLabels sides (length ks + j) ≡ b .labels =
+      ap (λ (n : ℕ). setLabels sides (n + j)) (sym left-many)
+      ∙ getD-append-add (sideLabels (sides .left)) (sideLabels (sides .right)) j noLabels
+      ∙ ap (λ (l : List Labels). getD l j noLabels) (rights .labels) ∙ getD-labels rs j ∙ ap (λ c. c .labels) hb in
       rw (le-ltb (length ks + j) (length ks) (omega arith), behind, stands, labels)
 
   -- all of them
@@ -219,35 +257,37 @@ module _ (q : Query) (rule : SetRule) (p : ℕ) (ls rs : List Series) (ks ms : L
   emits = emission q obeys (placed ls rs)
 
   emits-left : (b : Series) (i k : ℕ) → length (b .row) ≡ p → Sees q false ls rs ks ms b k
-      → goodSeries (emits (record { place = record { side = left; number = i }; series = b }))
-      ≡ cond (leftAnswers rule p (readingsOf rs) (metPlaces falls ms k) (b .row)) (record { labels = b .labels; row = leftRow rule p (readingsOf rs) (metPlaces falls ms k) (b .row) } ∷ []) []
+      → goodSeries (emits (at left i b))
+      ≡ leftKept rule p (sides .right .rows) (metPlaces falls ms k) b
   emits-left b i k w s =
-      good-produced (record { side = left; number = i }) (obeys (record { place = record { side = left; number = i }; series = b }) (ofKey q (b .labels) (placed ls rs)))
-      ∙ left-series (record { side = left; number = i }) b k w (ofSide right (ofKey q (b .labels) (placed ls rs))) (sym (all-rights q ls rs ks ms b k s))
+      good-produced (on left i) (obeys (at left i b) (ofKey q (b .labels) (placed ls rs)))
+      ∙ left-series (on left i) b k w (ofSide right (ofKey q (b .labels) (placed ls rs))) (sym (all-rights q ls rs ks ms b k s))
 
-  clash-left : (b : Series) (i : ℕ) → firstClash (emits (record { place = record { side = left; number = i }; series = b })) ≡ none
+  clash-left : (b : Series) (i : ℕ) → firstClash (emits (at left i b)) ≡ none
   clash-left b i =
-      clash-produced (record { side = left; number = i }) (obeys (record { place = record { side = left; number = i }; series = b }) (ofKey q (b .labels) (placed ls rs)))
-      ∙ left-clash (record { side = left; number = i }) b (ofSide right (ofKey q (b .labels) (placed ls rs)))
+      clash-produced (on left i) (obeys (at left i b) (ofKey q (b .labels) (placed ls rs)))
+      ∙ left-clash (on left i) b (ofSide right (ofKey q (b .labels) (placed ls rs)))
 
-  clash-right : (b : Series) (i : ℕ) → firstClash (emits (record { place = record { side = right; number = i }; series = b })) ≡ none
+  clash-right : (b : Series) (i : ℕ) → firstClash (emits (at right i b)) ≡ none
   clash-right b i =
-      clash-produced (record { side = right; number = i }) (obeys (record { place = record { side = right; number = i }; series = b }) (ofKey q (b .labels) (placed ls rs)))
-      ∙ right-clash (record { side = right; number = i }) b (ofSide left (ofKey q (b .labels) (placed ls rs))) adding
+      clash-produced (on right i) (obeys (at right i b) (ofKey q (b .labels) (placed ls rs)))
+      ∙ right-clash (on right i) b (ofSide left (ofKey q (b .labels) (placed ls rs))) adding
 
   emits-right : (b : Series) (j k : ℕ) → Sees q false ls rs ks ms b k
-      → goodSeries (emits (record { place = record { side = right; number = j }; series = b })) ≡ cond adding (cond (eqb (firstOf ks k) (length ks)) (b ∷ []) []) []
+      → goodSeries (emits (at right j b)) ≡ cond adding (cond (eqb (firstOf ks k) (length ks)) (b ∷ []) []) []
   emits-right b j k s =
-      good-produced (record { side = right; number = j }) (obeys (record { place = record { side = right; number = j }; series = b }) (ofKey q (b .labels) (placed ls rs)))
+      good-produced (on right j) (obeys (at right j b) (ofKey q (b .labels) (placed ls rs)))
       ∙ go adding
     where
-      go : (t : Bool) → goodSeries {R = Place} (mark (record { side = right; number = j }) (cond t (rightResult b (ofSide left (ofKey q (b .labels) (placed ls rs)))) []))
+      go : (t : Bool)
+          → goodSeries {R = Place} (mark (on right j) (cond t (rightResult b (ofSide left (ofKey q (b .labels) (placed ls rs)))) []))
           ≡ cond t (cond (eqb (firstOf ks k) (length ks)) (b ∷ []) []) []
-      go true = right-series (record { side = right; number = j }) b k (ofSide left (ofKey q (b .labels) (placed ls rs))) (sym (all-lefts q ls rs ks ms b k s))
+      go true = right-series (on right j) b k (ofSide left (ofKey q (b .labels) (placed ls rs))) (sym (all-lefts q ls rs ks ms b k s))
       go false = refl
 
-  lefts-series : (i : ℕ) (g : ℕ → ℕ) (bs : List Series) (xs : List ℕ) → ((j : ℕ) → g j ≡ i + j) → From noSeries ls bs i → From 0 ks xs i → EachSees (Sees q false ls rs ks ms) bs xs
-      → gather (λ x. goodSeries (emits x)) (numbered left g bs) ≡ map (setSeries sides) (leftsFrom sides i xs)
+  lefts-series : (i : ℕ) (g : ℕ → ℕ) (bs : List Series) (xs : List ℕ) → ((j : ℕ) → g j ≡ i + j) → From noSeries ls bs i → From 0 ks xs i
+      → EachSees (Sees q false ls rs ks ms) bs xs
+      → gather (λ x. goodSeries (emits x)) (numbered left g bs) ≡ map (setSeries work sides) (leftsFrom work sides i xs)
   unfolding leftsFrom
   lefts-series i g [] [] h fb fk e = refl
   lefts-series i g [] (k ∷ xs) h fb fk e = absurd e
@@ -257,19 +297,23 @@ module _ (q : Query) (rule : SetRule) (p : ℕ) (ls rs : List Series) (ks ms : L
       let within : i < length ks = omega (arith, fk .size) in
       let hb = from-here noSeries ls b bs i fb in
       let hk = from-here 0 ks k xs i fk in
-      let width : length (b .row) ≡ p = ap (λ c. length (c .row)) (sym hb) ∙ width-at p ls widths i (omega (arith, within, sameLeft)) in
-      let stands : rowAt p (readingsOf ls) i ≡ b .row = sym (ap (rowAt p (readingsOf ls)) (zero-plus i)) ∙ row-at p (readingsOf ls) 0 ls rowsLeft i (omega (arith, within, sameLeft)) ∙ ap (λ c. c .row) hb in
-      let rest = lefts-series (suc i) (λ j. g (suc j)) bs xs (λ j. h (suc j) ∙ (omega arith)) (from-next noSeries ls b bs i fb) (from-next 0 ks k xs i fk) (e .1) in
+      let width : length (b .row) ≡ p = ap (λ c. length (c .row)) (sym hb) ∙ width-at p ls (lefts .wide) i (omega (arith, within, (lefts .count))) in
+      let stands : rowAt p (sides .left .rows) i ≡ b .row =
+      row-of (sides .left .rows) ls (lefts .rows) b i (omega (arith, within, lefts .count)) hb in
+      let rest = lefts-series (suc i) (λ j. g (suc j)) bs xs (λ j. h (suc j) ∙ (omega arith))
+      (from-next noSeries ls b bs i fb) (from-next 0 ks k xs i fk) (e .1) in
       rw (first, emits-left b i k width (e .0), rest, stands)
-      (joined (leftAnswers rule p (readingsOf rs) (metPlaces falls ms k) (b .row)) (left-is b i k within hb hk))
+      (joined (leftAnswers rule p (sides .right .rows) (metPlaces falls ms k) (b .row)) (left-is b i k within hb hk))
     where
-      joined : (t : Bool) {c : Series} → setSeries sides i ≡ c
-          → cond t (c ∷ []) [] ++ map (setSeries sides) (leftsFrom sides (suc i) xs) ≡ map (setSeries sides) (cond t (i ∷ leftsFrom sides (suc i) xs) (leftsFrom sides (suc i) xs))
-      joined true e = ap (λ c. c ∷ map (setSeries sides) (leftsFrom sides (suc i) xs)) (sym e)
+      joined : (t : Bool) {c : Series} → setSeries work sides i ≡ c
+          → cond t (c ∷ []) [] ++ map (setSeries work sides) (leftsFrom work sides (suc i) xs)
+          ≡ map (setSeries work sides) (cond t (i ∷ leftsFrom work sides (suc i) xs) (leftsFrom work sides (suc i) xs))
+      joined true e = ap (λ c. c ∷ map (setSeries work sides) (leftsFrom work sides (suc i) xs)) (sym e)
       joined false e = refl
 
-  rights-series : (j : ℕ) (g : ℕ → ℕ) (bs : List Series) (xs : List ℕ) → ((n : ℕ) → g n ≡ j + n) → From noSeries rs bs j → From 0 ms xs j → EachSees (Sees q false ls rs ks ms) bs xs
-      → gather (λ x. goodSeries (emits x)) (numbered right g bs) ≡ map (setSeries sides) (cond adding (rightsFrom ks j xs) [])
+  rights-series : (j : ℕ) (g : ℕ → ℕ) (bs : List Series) (xs : List ℕ) → ((n : ℕ) → g n ≡ j + n) → From noSeries rs bs j → From 0 ms xs j
+      → EachSees (Sees q false ls rs ks ms) bs xs
+      → gather (λ x. goodSeries (emits x)) (numbered right g bs) ≡ map (setSeries work sides) (cond adding (rightsFrom ks j xs) [])
   unfolding rightsFrom
   rights-series j g [] [] h fb fk e = cases adding (λ t. rw t) (λ t. rw t)
   rights-series j g [] (k ∷ xs) h fb fk e = absurd e
@@ -277,32 +321,38 @@ module _ (q : Query) (rule : SetRule) (p : ℕ) (ls rs : List Series) (ks ms : L
   rights-series j g (b ∷ bs) (k ∷ xs) h fb fk e =
       let first : g zero ≡ j = h zero ∙ (omega arith) in
       let within : j < length ms = omega (arith, fk .size) in
-      let rest = rights-series (suc j) (λ n. g (suc n)) bs xs (λ n. h (suc n) ∙ (omega arith)) (from-next noSeries rs b bs j fb) (from-next 0 ms k xs j fk) (e .1) in
+      let rest = rights-series (suc j) (λ n. g (suc n)) bs xs (λ n. h (suc n) ∙ (omega arith))
+      (from-next noSeries rs b bs j fb) (from-next 0 ms k xs j fk) (e .1) in
       rw (first, emits-right b j k (e .0), rest)
       (joined adding (eqb (firstOf ks k) (length ks)) (right-is b j within (from-here noSeries rs b bs j fb)))
     where
-      joined : (t u : Bool) → setSeries sides (length ks + j) ≡ b
-          → cond t (cond u (b ∷ []) []) [] ++ map (setSeries sides) (cond t (rightsFrom ks (suc j) xs) [])
-          ≡ map (setSeries sides) (cond t (cond u ((length ks + j) ∷ rightsFrom ks (suc j) xs) (rightsFrom ks (suc j) xs)) [])
-      joined true true e = ap (λ c. c ∷ map (setSeries sides) (rightsFrom ks (suc j) xs)) (sym e)
+      joined : (t u : Bool) → setSeries work sides (length ks + j) ≡ b
+          → cond t (cond u (b ∷ []) []) [] ++ map (setSeries work sides) (cond t (rightsFrom ks (suc j) xs) [])
+          ≡ map (setSeries work sides) (cond t (cond u ((length ks + j) ∷ rightsFrom ks (suc j) xs) (rightsFrom ks (suc j) xs)) [])
+      joined true true e = ap (λ c. c ∷ map (setSeries work sides) (rightsFrom ks (suc j) xs)) (sym e)
       joined true false e = refl
       joined false u e = refl
 
-  none-clash : (side : Side) → ((b : Series) (i : ℕ) → firstClash (emits (record { place = record { side = side; number = i }; series = b })) ≡ none) → (g : ℕ → ℕ) (bs : List Series)
+  none-clash : (side : Side) → ((b : Series) (i : ℕ) → firstClash (emits (at side i b)) ≡ none)
+      → (g : ℕ → ℕ) (bs : List Series)
       → firstOver (λ x. firstClash (emits x)) (numbered side g bs) ≡ none
   none-clash side h g [] = refl
   none-clash side h g (b ∷ bs) = rw (h b (g zero), none-clash side h (λ j. g (suc j)) bs)
 
   pub sets-conclude : (labelRoom room : ℕ) (shape : Shape) → Numbers q false ls rs ks ms
-      → concluded labelRoom room shape (settle (events q obeys (placed ls rs))) ≡ conclude labelRoom room shape none (map (setSeries sides) (setRows sides))
+      → concluded labelRoom room shape (settle (events q obeys (placed ls rs)))
+      ≡ conclude labelRoom room shape none (map (setSeries work sides) (setRows work sides))
   sets-conclude a b shape n =
       let clashless : firstClash (events q obeys (placed ls rs)) ≡ none =
       clash-gather emits (placed ls rs) ∙ first-append (λ x. firstClash (emits x)) (numbered left (λ i. i) ls) (numbered right (λ i. i) rs)
       ∙ rw (none-clash left clash-left (λ i. i) ls, none-clash right clash-right (λ i. i) rs) in
-      let series : goodSeries (events q obeys (placed ls rs)) ≡ map (setSeries sides) (setRows sides) =
+      let series : goodSeries (events q obeys (placed ls rs)) ≡ map (setSeries work sides) (setRows work sides) =
       good-gather emits (placed ls rs) ∙ gather-append (λ x. goodSeries (emits x)) (numbered left (λ i. i) ls) (numbered right (λ i. i) rs)
-      ∙ rw (lefts-series 0 (λ i. i) ls ks (λ j. omega arith) (from-all noSeries ls) (from-all 0 ks) (n .ofLefts), rights-series 0 (λ i. i) rs ms (λ j. omega arith) (from-all noSeries rs) (from-all 0 ms) (n .ofRights))
-      (sym (map-append (setSeries sides) (leftsFrom sides 0 ks) (cond adding (rightsFrom ks 0 ms) []))) in
+      ∙ rw (
+        lefts-series 0 (λ i. i) ls ks (λ j. omega arith) (from-all noSeries ls) (from-all 0 ks) (n .ofLefts),
+        rights-series 0 (λ i. i) rs ms (λ j. omega arith) (from-all noSeries rs) (from-all 0 ms) (n .ofRights),
+      )
+      (sym (map-append (setSeries work sides) (leftsFrom work sides 0 ks) (cond adding (rightsFrom ks 0 ms) []))) in
       settled-concludes a b shape (events q obeys (placed ls rs)) ∙ rw (clashless, series)
 
 -- the law, for the operators that do not fall back and for those that do
@@ -320,34 +370,73 @@ scalar-falls (r ∷ []) = go (isBare (r .labels))
     go false = nowhere (r ∷ [])
 scalar-falls (r ∷ s ∷ rs) = nowhere (r ∷ s ∷ rs)
 
-module _ (q : Query) (rule : SetRule) (p : ℕ) (ls rs : List Series) (ks ms : List ℕ) (sameLeft : length ks ≡ length ls) (sameRight : length ms ≡ length rs)
-    (widths : All (λ b. length (b .row) ≡ p) ls) (rowsLeft : RowsAt p (readingsOf ls) 0 ls) (rowsRight : RowsAt p (readingsOf rs) 0 rs) (labelRoom room : ℕ) (shape : Shape) where
-  abbrev pub setSidesOf : Bool → Bool → SetSides
-  setSidesOf falls adding =
-      record {
-        points = p;
-        rule = rule;
-        falls = falls;
-        adds = adds rule && adding;
-        leftLabels = labelsOfSide ls;
-        leftKeys = ks;
-        leftRows = readingsOf ls;
-        rightLabels = labelsOfSide rs;
-        rightKeys = ms;
-        rightRows = readingsOf rs;
-      }
-
-  pub set-concludes : kindOf (q .operator) ≡ setRule rule → Numbers q false ls rs ks ms
-      → concluded labelRoom room shape (verdict q ls rs) ≡ conclude labelRoom room shape none (map (setSeries (setSidesOf false true)) (setRows (setSidesOf false true)))
+module _ (q : Query) (rule : SetRule) (sides : Sides) (ls rs : List Series)
+    (lefts : StandsFor (sides .shape .points) (sides .left) ls) (rights : StandsFor (sides .shape .points) (sides .right) rs)
+    (labelRoom room : ℕ) (n : Numbers q false ls rs (sides .left .keys) (sides .right .keys)) where
+  set-concludes : kindOf (q .operator) ≡ setRule rule
+      → concluded labelRoom room (sides .shape) (verdict q ls rs) ≡ setOutcome (setWork rule false true) labelRoom room sides
   unfolding verdict
-  set-concludes hk n =
-      ap (λ o. concluded labelRoom room shape (settle (events q (ruleOf q o (look o ls rs)) (placed ls rs)))) hk
-      ∙ sets-conclude q rule p ls rs ks ms sameLeft sameRight widths rowsLeft rowsRight false (look (setRule rule) ls rs) (nowhere rs) labelRoom room shape n
+  set-concludes hk =
+      ap (λ o. concluded labelRoom room (sides .shape) (settle (events q (ruleOf q o (look o ls rs)) (placed ls rs)))) hk
+      ∙ sets-conclude q rule sides ls rs lefts rights false (look (setRule rule) ls rs) (nowhere rs) labelRoom room (sides .shape) n
 
-  pub fallback-concludes : kindOf (q .operator) ≡ fallback rule → Numbers q false ls rs ks ms
-      → concluded labelRoom room shape (verdict q ls rs)
-      ≡ conclude labelRoom room shape none (map (setSeries (setSidesOf (isGiven (scalarSide rs)) (isEmpty ls))) (setRows (setSidesOf (isGiven (scalarSide rs)) (isEmpty ls))))
+  fallback-concludes : kindOf (q .operator) ≡ fallback rule
+      → concluded labelRoom room (sides .shape) (verdict q ls rs)
+      ≡ setOutcome (setWork rule (isGiven (scalarSide rs)) (isEmpty ls)) labelRoom room sides
   unfolding verdict
-  fallback-concludes hk n =
-      ap (λ o. concluded labelRoom room shape (settle (events q (ruleOf q o (look o ls rs)) (placed ls rs)))) hk
-      ∙ sets-conclude q rule p ls rs ks ms sameLeft sameRight widths rowsLeft rowsRight (isGiven (scalarSide rs)) (look (fallback rule) ls rs) (scalar-falls rs) labelRoom room shape n
+  fallback-concludes hk =
+      ap (λ o. concluded labelRoom room (sides .shape) (settle (events q (ruleOf q o (look o ls rs)) (placed ls rs)))) hk
+      ∙ sets-conclude q rule sides ls rs lefts rights (isGiven (scalarSide rs)) (look (fallback rule) ls rs) (scalar-falls rs)
+      labelRoom room (sides .shape) n
+
+-- whether the right side is a scalar, by its labels and by its series
+
+given-if : (t : Bool) (r : Series) → isGiven (cond t (some r) none) ≡ t
+given-if true r = refl
+given-if false r = refl
+
+pub scalar-given : (rs : List Series) → isGiven (scalarSide rs) ≡ isScalar (labelsOfSide rs)
+scalar-given [] = refl
+scalar-given (r ∷ []) = given-if (isBare (r .labels)) r
+scalar-given (r ∷ s ∷ rs) = refl
+
+empty-as : (ks : List ℕ) (ls : List Series) → length ks ≡ length ls → isEmpty ls ≡ isEmpty ks
+empty-as [] [] e = refl
+empty-as [] (l ∷ ls) e = absurd (omega (arith, e))
+empty-as (k ∷ ks) [] e = absurd (omega (arith, e))
+empty-as (k ∷ ks) (l ∷ ls) e = refl
+
+-- a set operator on two sides that are held
+
+module _ (q : Query) (s : Sides) (held : BothHeld s) (labelRoom room : ℕ) where
+  abbrev ofLeft : List Series
+  ofLeft = sideSeries (s .shape .points) (s .left)
+
+  abbrev ofRight : List Series
+  ofRight = sideSeries (s .shape .points) (s .right)
+
+  lefts : StandsFor (s .shape .points) (s .left) ofLeft
+  lefts = held-stands (s .shape .points) (s .left) (held .left)
+
+  rights : StandsFor (s .shape .points) (s .right) ofRight
+  rights = held-stands (s .shape .points) (s .right) (held .right)
+
+  scalar : isGiven (scalarSide ofRight) ≡ isScalar (sideLabels (s .right))
+  scalar = scalar-given ofRight ∙ ap isScalar (sym (rights .labels))
+
+  module _ (n : Numbers q false ofLeft ofRight (s .left .keys) (s .right .keys)) where
+    by-kind : (c : Kind) → kindOf (q .operator) ≡ c → joinsSets c ≡ true
+        → concluded labelRoom room (s .shape) (verdict q ofLeft ofRight) ≡ setOutcome (workFor c s) labelRoom room s
+    by-kind (arithmetic a) e h = never h
+    by-kind (comparison c) e h = never h
+    by-kind (setRule rule) e h = set-concludes q rule s ofLeft ofRight lefts rights labelRoom room n e
+    by-kind (fallback rule) e h =
+        fallback-concludes q rule s ofLeft ofRight lefts rights labelRoom room n e
+        ∙ rw (scalar, empty-as (s .left .keys) ofLeft (lefts .count))
+    by-kind notCarried e h = never h
+
+pub set-verdict : (q : Query) (s : Sides) → BothHeld s → (labelRoom room : ℕ) → isLogicalOp (q .operator) ≡ true
+    → Numbers q false (sideSeries (s .shape .points) (s .left)) (sideSeries (s .shape .points) (s .right)) (s .left .keys) (s .right .keys)
+    → concluded labelRoom room (s .shape) (verdict q (sideSeries (s .shape .points) (s .left)) (sideSeries (s .shape .points) (s .right)))
+    ≡ setOutcome (workFor (kindOf (q .operator)) s) labelRoom room s
+set-verdict q s held labelRoom room h n = by-kind q s held labelRoom room n (kindOf (q .operator)) refl h

@@ -103,7 +103,8 @@ settled-series (e ∷ l) h = go (e .what) (settle l) refl h (settled-series l)
     go (good s) (answer m) hv h ih = ap (λ t. s ∷ t) (ap verdictSeries (sym hv) ∙ ih h)
 
 -- the law: a settled list of events concludes by its first clash and its good series
-pub settled-concludes : (labelRoom room : ℕ) (shape : Shape) (l : List (Ranked Rank Event)) → concluded labelRoom room shape (settle l) ≡ conclude labelRoom room shape (firstClash l) (goodSeries l)
+pub settled-concludes : (labelRoom room : ℕ) (shape : Shape) (l : List (Ranked Rank Event))
+    → concluded labelRoom room shape (settle l) ≡ conclude labelRoom room shape (firstClash l) (goodSeries l)
 settled-concludes a b shape l = go (settle l) refl (firstClash l) refl
   where
     go : (v : Verdict) → settle l ≡ v → (o : Option Duplicate) → firstClash l ≡ o → concluded a b shape v ≡ conclude a b shape o (goodSeries l)

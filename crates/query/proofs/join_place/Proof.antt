@@ -14,11 +14,14 @@ first c =
     let e = c .before .before .before in
     part-taken 4 (now (e .before .before .before .args .s)) (e .list-end .result) (e .list-end .ensures) (c .before .n .given .0 .0) (cc)
 
-second : (c : tie.After-known-told2) → ListTaken (drop (4 + c .before .before .before .before .before .before .n .given .0 .0) (now (c .before .before .before .before .before .before .before .before .before .before .before .args .s))) (c .before .m .given .0 .0)
+second : (c : tie.After-known-told2) → ListTaken
+    (drop (4 + c .before .before .before .before .before .before .n .given .0 .0)
+    (now (c .before .before .before .before .before .before .before .before .before .before .before .args .s))) (c .before .m .given .0 .0)
 second c =
     let e = c .before .before .before in
     let f = e .before .before in
-    part-taken (4 + f .before .n .given .0 .0) (now (f .before .before .before .before .before .before .args .s)) (e .list-end2 .result) (e .list-end2 .ensures) (c .before .m .given .0 .0) (cc)
+    part-taken (4 + f .before .n .given .0 .0) (now (f .before .before .before .before .before .before .args .s)) (e .list-end2 .result)
+    (e .list-end2 .ensures) (c .before .m .given .0 .0) (cc)
 
 add-at : tie.Need-add-at
 add-at c =

@@ -12,7 +12,8 @@ returns-2 c =
     let b = o .before .before in
     let e = b .before .before in
     carried (now (e .before .before .args .s)) (e .if1 .left) (b .from-byte .result) (b .from-byte .ensures)
-    (o .operator .given .0 .0) (cc) (k .is-carried .result) (k .is-carried .ensures) (c .before .if2 .taken) (c .take-modifier .result) (c .take-modifier .ensures)
+    (o .operator .given .0 .0) (cc) (k .is-carried .result) (k .is-carried .ensures) (c .before .if2 .taken)
+    (c .take-modifier .result) (c .take-modifier .ensures)
 
 returns-3 : tie.Need-returns-3
 returns-3 c =

@@ -31,8 +31,8 @@ enum-told-2 c = search needs
 returns-3 : tie.Need-returns-3
 returns-3 c = search next-no-value
 
-sub-t10 : tie.Need-sub-t10
-sub-t10 c = search needs
+sub-left : tie.Need-sub-left
+sub-left c = search needs
 
 returns-4 : tie.Need-returns-4
 returns-4 c = search next-found
@@ -50,5 +50,5 @@ next-tag-spec =
     enum-known-end
     enum-told-2
     returns-3
-    sub-t10
+    sub-left
     returns-4)

@@ -5,7 +5,7 @@ use borrow.Author.Needs.{needs}
 use Rattle.model.specs.Reading.{scalarOp}
 use Rattle.rows.specs.Nothing.{nothing}
 use Rattle.rows.proofs.Dispatch.{no-scalar}
-use Rattle.zipping.specs.Zipping.{same-zip}
+use Rattle.model.specs.Laws.Zipping.{same-zip}
 use Rattle.rows.proofs.apply_rows.Statement.{statement}
 use Rattle.rows.proofs.apply_rows.Tie as tie
 
@@ -14,7 +14,7 @@ returns-12 c =
     let n = c .before .before in
     let m = n .before .before in
     let a = m .before .before .before .before .args in
-    n .no-rows .ensures ∙ same-zip nothing (scalarOp (a .op) (a .bool)) (no-scalar (a .op) (m .match .keys12) (a .bool)) (now (a .left)) (now (a .right))
+    n .no-rows .ensures ∙ same-zip nothing (scalarOp (a .op) (a .as-bool)) (no-scalar (a .op) (m .match .keys12) (a .as-bool)) (now (a .left)) (now (a .right))
 
 pub apply-rows-spec : {M : Type 1} → statement M
 unfolding scalarOp

@@ -6,18 +6,18 @@ use Rattle.operator.specs.Kinds.{Comparison}
 use Rattle.model.specs.Reading.{missing, noReading, oneOrZero, holds, compared}
 use Rattle.rows.specs.comparisons.Values.{comparisonValue}
 
-pub by-value : (bool : Bool) (k : Comparison) (a b : ℕ) → comparisonValue bool (holds k a b) a ≡ compared bool k a b
+pub by-value : (asBool : Bool) (k : Comparison) (a b : ℕ) → comparisonValue asBool (holds k a b) a ≡ compared asBool k a b
 unfolding compared
 by-value true k a b = refl
 by-value false k a b = refl
 
 -- the value that is made of a test's answer
-pub told : (bool : Bool) (k : Comparison) (a b : ℕ) (x : Bool) (v : ℕ) → x ≡ holds k a b → v ≡ comparisonValue bool x a → v ≡ compared bool k a b
-told bool k a b x v hx hv = hv ∙ rw hx (by-value bool k a b)
+pub told : (asBool : Bool) (k : Comparison) (a b : ℕ) (x : Bool) (v : ℕ) → x ≡ holds k a b → v ≡ comparisonValue asBool x a → v ≡ compared asBool k a b
+told asBool k a b x v hx hv = hv ∙ rw hx (by-value asBool k a b)
 
-module _ (bool h : Bool) (a v : ℕ) where
-  pub as-number : bool ≡ true → (m : Bool) → m ≡ missing a → (o : ℕ) → o ≡ oneOrZero h → v ≡ cond m noReading o → v ≡ comparisonValue bool h a
+module _ (asBool h : Bool) (a v : ℕ) where
+  pub as-number : asBool ≡ true → (m : Bool) → m ≡ missing a → (o : ℕ) → o ≡ oneOrZero h → v ≡ cond m noReading o → v ≡ comparisonValue asBool h a
   as-number e m hm o ho hv = hv ∙ rw (e, hm, ho)
 
-  pub as-reading : bool ≡ false → v ≡ cond h a noReading → v ≡ comparisonValue bool h a
+  pub as-reading : asBool ≡ false → v ≡ cond h a noReading → v ≡ comparisonValue asBool h a
   as-reading e hv = hv ∙ rw e

@@ -4,7 +4,7 @@ use native.Mathlib.Omega.{arith}
 use lib.ListN.{length}
 use borrow.Author.Needs.{needs}
 use Rattle.rows.specs.Nothing.{nothing}
-use Rattle.zipping.specs.Zipping.{Written, starts, turn, ends}
+use Rattle.model.specs.Laws.Zipping.{Written, starts, turn, ends}
 use Rattle.rows.proofs.no_rows.Statement.{statement}
 use Rattle.rows.proofs.no_rows.Tie as tie
 

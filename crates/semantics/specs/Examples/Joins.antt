@@ -19,9 +19,11 @@ two-forms = refl
 
 -- 01: many side right for group_right; the left reading is the left operand in both. A comparison keeps the many side's name.
 group-right :
-    on (ask 9 1 2 0 (p ∷ []) []) 1 (series waste (press A ∷ []) (ten ∷ []) ∷ []) (series fed (form A ∷ press A ∷ []) (one ∷ []) ∷ series fed (form B ∷ press A ∷ []) (two ∷ []) ∷ []) ∷
+    on (ask 9 1 2 0 (p ∷ []) []) 1 (series waste (press A ∷ []) (ten ∷ []) ∷ [])
+    (series fed (form A ∷ press A ∷ []) (one ∷ []) ∷ series fed (form B ∷ press A ∷ []) (two ∷ []) ∷ []) ∷
     on (ask 10 1 2 0 (p ∷ []) []) 1 (series waste (press A ∷ []) (ten ∷ []) ∷ []) (series fed (form A ∷ press A ∷ []) (one ∷ []) ∷ []) ∷ []
-    ≡ gives 1 (series [] (form A ∷ press A ∷ []) (nine ∷ []) ∷ series [] (form B ∷ press A ∷ []) (eight ∷ []) ∷ []) ∷ gives 1 (series fed (form A ∷ press A ∷ []) (ten ∷ []) ∷ []) ∷ []
+    ≡ gives 1 (series [] (form A ∷ press A ∷ []) (nine ∷ []) ∷ series [] (form B ∷ press A ∷ []) (eight ∷ []) ∷ []) ∷ gives 1
+    (series fed (form A ∷ press A ∷ []) (ten ∷ []) ∷ []) ∷ []
 unfolding computing
 group-right = refl
 
@@ -31,7 +33,8 @@ unfolding computing
 unmatched-many = refl
 
 -- 01: Non-comparison arithmetic first drops series with only N on either side, in joins too
-dropped-first : on (ask 0 1 1 0 (p ∷ []) []) 1 (series [] (press A ∷ []) (N ∷ []) ∷ series [] (form B ∷ press A ∷ []) (one ∷ []) ∷ []) (series [] (press A ∷ []) (N ∷ []) ∷ series [] (press A ∷ []) (one ∷ []) ∷ [])
+dropped-first : on (ask 0 1 1 0 (p ∷ []) []) 1 (series [] (press A ∷ []) (N ∷ []) ∷ series [] (form B ∷ press A ∷ []) (one ∷ []) ∷ [])
+    (series [] (press A ∷ []) (N ∷ []) ∷ series [] (press A ∷ []) (one ∷ []) ∷ [])
     ≡ gives 1 (series [] (form B ∷ press A ∷ []) (two ∷ []) ∷ [])
 unfolding computing
 dropped-first = refl
@@ -49,8 +52,10 @@ labels-set = refl
 
 -- 01: the one-label list `*` copies every tag outside the skip list, never the name. Beside another label `*` is a label like any.
 star-copies :
-    on (ask 11 1 1 0 (p ∷ []) (star ∷ [])) 1 (series fed (form A ∷ press A ∷ []) (one ∷ []) ∷ []) (series waste (form B ∷ press A ∷ stock C ∷ []) (one ∷ []) ∷ []) ∷
-    on (ask 11 1 1 0 (p ∷ []) (star ∷ f ∷ [])) 1 (series fed (form A ∷ press A ∷ []) (one ∷ []) ∷ []) (series waste (form B ∷ press A ∷ stock C ∷ []) (one ∷ []) ∷ []) ∷ []
+    on (ask 11 1 1 0 (p ∷ []) (star ∷ [])) 1 (series fed (form A ∷ press A ∷ []) (one ∷ []) ∷ [])
+    (series waste (form B ∷ press A ∷ stock C ∷ []) (one ∷ []) ∷ []) ∷
+    on (ask 11 1 1 0 (p ∷ []) (star ∷ f ∷ [])) 1 (series fed (form A ∷ press A ∷ []) (one ∷ []) ∷ [])
+    (series waste (form B ∷ press A ∷ stock C ∷ []) (one ∷ []) ∷ []) ∷ []
     ≡ gives 1 (series fed (form B ∷ press A ∷ stock C ∷ []) (one ∷ []) ∷ []) ∷ gives 1 (series fed (form B ∷ press A ∷ []) (one ∷ []) ∷ []) ∷ []
 unfolding computing
 star-copies = refl
@@ -67,7 +72,8 @@ merged-earliest = refl
 join-order :
     on (ask 0 1 1 0 (p ∷ []) (s ∷ [])) 3
     (series [] (form A ∷ press A ∷ []) (one ∷ one ∷ one ∷ []) ∷ series [] (form B ∷ press A ∷ []) (two ∷ two ∷ two ∷ []) ∷ [])
-    (series [] (press A ∷ stock C ∷ []) (one ∷ N ∷ N ∷ []) ∷ series [] (press A ∷ stock B ∷ []) (three ∷ three ∷ three ∷ []) ∷ series [] (press A ∷ stock C ∷ []) (N ∷ two ∷ N ∷ []) ∷ [])
+    (series [] (press A ∷ stock C ∷ []) (one ∷ N ∷ N ∷ []) ∷ series [] (press A ∷ stock B ∷ []) (three ∷ three ∷ three ∷ []) ∷ series []
+    (press A ∷ stock C ∷ []) (N ∷ two ∷ N ∷ []) ∷ [])
     ≡ gives 3
     (series [] (form A ∷ press A ∷ stock C ∷ []) (two ∷ three ∷ N ∷ []) ∷ series [] (form A ∷ press A ∷ stock B ∷ []) (four ∷ four ∷ four ∷ []) ∷
     series [] (form B ∷ press A ∷ stock C ∷ []) (three ∷ four ∷ N ∷ []) ∷ series [] (form B ∷ press A ∷ stock B ∷ []) (five ∷ five ∷ five ∷ []) ∷ [])
@@ -75,7 +81,8 @@ unfolding computing
 join-order = refl
 
 -- 01: two many-side series never merge, though their edited labels are equal
-many-apart : on (ask 0 1 1 0 (p ∷ []) []) 1 (series fed (press A ∷ []) (one ∷ []) ∷ series waste (press A ∷ []) (two ∷ []) ∷ []) (series [] (press A ∷ []) (one ∷ []) ∷ [])
+many-apart : on (ask 0 1 1 0 (p ∷ []) []) 1 (series fed (press A ∷ []) (one ∷ []) ∷ series waste (press A ∷ []) (two ∷ []) ∷ [])
+    (series [] (press A ∷ []) (one ∷ []) ∷ [])
     ≡ gives 1 (series [] (press A ∷ []) (two ∷ []) ∷ series [] (press A ∷ []) (three ∷ []) ∷ [])
 unfolding computing
 many-apart = refl
@@ -89,7 +96,9 @@ earliest-duplicate :
 unfolding computing
 earliest-duplicate = refl
 
-duplicate-left : on (ask 0 1 2 0 (p ∷ []) []) 3 (series [] (press A ∷ []) (one ∷ one ∷ one ∷ []) ∷ series [] (press A ∷ []) (one ∷ one ∷ one ∷ []) ∷ []) (series [] (press A ∷ []) (one ∷ one ∷ one ∷ []) ∷ []) ≡ refused 7 0 1
+duplicate-left : on (ask 0 1 2 0 (p ∷ []) []) 3
+    (series [] (press A ∷ []) (one ∷ one ∷ one ∷ []) ∷ series [] (press A ∷ []) (one ∷ one ∷ one ∷ []) ∷ [])
+    (series [] (press A ∷ []) (one ∷ one ∷ one ∷ []) ∷ []) ≡ refused 7 0 1
 unfolding computing
 duplicate-left = refl
 

@@ -14,31 +14,37 @@ unfolding computing
 waste-rate = refl
 
 -- each of + - * / % is the language's: -6 % 3 is -0
-operators : on (plainly 9) 1 (series [] [] (five ∷ []) ∷ []) (series [] [] (three ∷ []) ∷ []) ∷ on (plainly 7) 1 (series [] [] (two ∷ []) ∷ []) (series [] [] (three ∷ []) ∷ []) ∷ on (plainly 6) 1 (series [] [] (minusSix ∷ []) ∷ []) (series [] [] (three ∷ []) ∷ []) ∷ []
+operators : on (plainly 9) 1 (series [] [] (five ∷ []) ∷ []) (series [] [] (three ∷ []) ∷ []) ∷ on (plainly 7) 1 (series [] [] (two ∷ []) ∷ [])
+    (series [] [] (three ∷ []) ∷ []) ∷ on (plainly 6) 1 (series [] [] (minusSix ∷ []) ∷ []) (series [] [] (three ∷ []) ∷ []) ∷ []
     ≡ gives 1 (series [] [] (two ∷ []) ∷ []) ∷ gives 1 (series [] [] (six ∷ []) ∷ []) ∷ gives 1 (series [] [] (minusZero ∷ []) ∷ []) ∷ []
 unfolding computing
 operators = refl
 
 -- 01: Comparison gives the left reading if true, else N. With bool: left N gives N, else 1 or 0.
-comparison : on (plainly 10) 3 (series [] [] (one ∷ three ∷ payload ∷ []) ∷ []) (series [] [] (two ∷ two ∷ two ∷ []) ∷ []) ∷ on (ask 10 0 0 2 [] []) 3 (series [] [] (one ∷ three ∷ payload ∷ []) ∷ []) (series [] [] (two ∷ two ∷ two ∷ []) ∷ []) ∷ []
+comparison : on (plainly 10) 3 (series [] [] (one ∷ three ∷ payload ∷ []) ∷ []) (series [] [] (two ∷ two ∷ two ∷ []) ∷ []) ∷ on (ask 10 0 0 2 [] []) 3
+    (series [] [] (one ∷ three ∷ payload ∷ []) ∷ []) (series [] [] (two ∷ two ∷ two ∷ []) ∷ []) ∷ []
     ≡ gives 3 (series [] [] (N ∷ three ∷ N ∷ []) ∷ []) ∷ gives 3 (series [] [] (zero ∷ one ∷ N ∷ []) ∷ []) ∷ []
 unfolding computing
 comparison = refl
 
 -- 01: Equality with both N is true; `!=` with one side N is true. The left reading keeps its bits.
-missing-compared : on (plainly 5) 2 (series [] [] (payload ∷ one ∷ []) ∷ []) (series [] [] (N ∷ N ∷ []) ∷ []) ∷ on (plainly 16) 2 (series [] [] (payload ∷ one ∷ []) ∷ []) (series [] [] (one ∷ N ∷ []) ∷ []) ∷ []
+missing-compared : on (plainly 5) 2 (series [] [] (payload ∷ one ∷ []) ∷ []) (series [] [] (N ∷ N ∷ []) ∷ []) ∷ on (plainly 16) 2
+    (series [] [] (payload ∷ one ∷ []) ∷ []) (series [] [] (one ∷ N ∷ []) ∷ []) ∷ []
     ≡ gives 2 (series [] [] (payload ∷ N ∷ []) ∷ []) ∷ gives 2 (series [] [] (payload ∷ one ∷ []) ∷ []) ∷ []
 unfolding computing
 missing-compared = refl
 
 -- 01: Non-comparison arithmetic first drops series with only N on either side; p = 0 counts as only N. Comparisons drop none.
-dropped-first : on (plainly 0) 2 (series [] [] (N ∷ payload ∷ []) ∷ []) (series [] [] (one ∷ one ∷ []) ∷ []) ∷ on (plainly 0) 2 (series [] [] (one ∷ one ∷ []) ∷ []) (series [] [] (N ∷ payload ∷ []) ∷ []) ∷ on (plainly 0) 0 (series [] [] [] ∷ []) (series [] [] [] ∷ []) ∷ on (plainly 5) 0 (series [] [] [] ∷ []) (series [] [] [] ∷ []) ∷ []
+dropped-first : on (plainly 0) 2 (series [] [] (N ∷ payload ∷ []) ∷ []) (series [] [] (one ∷ one ∷ []) ∷ []) ∷ on (plainly 0) 2
+    (series [] [] (one ∷ one ∷ []) ∷ []) (series [] [] (N ∷ payload ∷ []) ∷ []) ∷ on (plainly 0) 0 (series [] [] [] ∷ []) (series [] [] [] ∷ []) ∷ on
+    (plainly 5) 0 (series [] [] [] ∷ []) (series [] [] [] ∷ []) ∷ []
     ≡ gives 2 [] ∷ gives 2 [] ∷ gives 0 [] ∷ gives 0 (series [] [] [] ∷ []) ∷ []
 unfolding computing
 dropped-first = refl
 
 -- 01: each side becomes one series: the last, with the earlier ones merged into it in order. Names are kept by the flag.
-last-kept : on (ask 0 0 0 1 [] []) 3 (series fed (press A ∷ []) (one ∷ N ∷ N ∷ []) ∷ series waste (press A ∷ []) (N ∷ two ∷ N ∷ []) ∷ []) (series [] (press A ∷ []) (five ∷ five ∷ five ∷ []) ∷ [])
+last-kept : on (ask 0 0 0 1 [] []) 3 (series fed (press A ∷ []) (one ∷ N ∷ N ∷ []) ∷ series waste (press A ∷ []) (N ∷ two ∷ N ∷ []) ∷ [])
+    (series [] (press A ∷ []) (five ∷ five ∷ five ∷ []) ∷ [])
     ≡ gives 3 (series waste (press A ∷ []) (six ∷ seven ∷ N ∷ []) ∷ [])
 unfolding computing
 last-kept = refl
@@ -50,7 +56,9 @@ unfolding computing
 two-overlaps = refl
 
 -- the earlier ones in order: the second of them fails, against the last with the first merged in
-failed-second : on (plainly 0) 4 (series [] [] (N ∷ N ∷ N ∷ one ∷ []) ∷ series [] [] (two ∷ N ∷ two ∷ two ∷ []) ∷ series [] [] (three ∷ three ∷ three ∷ N ∷ []) ∷ []) (series [] [] (one ∷ one ∷ one ∷ one ∷ []) ∷ []) ≡ refused 7 2 1
+failed-second : on (plainly 0) 4
+    (series [] [] (N ∷ N ∷ N ∷ one ∷ []) ∷ series [] [] (two ∷ N ∷ two ∷ two ∷ []) ∷ series [] [] (three ∷ three ∷ three ∷ N ∷ []) ∷ [])
+    (series [] [] (one ∷ one ∷ one ∷ one ∷ []) ∷ []) ≡ refused 7 2 1
 unfolding computing
 failed-second = refl
 
@@ -60,13 +68,16 @@ unfolding computing
 short-rows = refl
 
 -- a dropped series is merged with none, and its place still counts
-dropped-not-merged : on (plainly 0) 2 (series [] [] (N ∷ N ∷ []) ∷ series [] [] (one ∷ one ∷ []) ∷ []) (series [] [] (one ∷ one ∷ []) ∷ []) ∷ on (plainly 0) 2 (series [] [] (N ∷ N ∷ []) ∷ series [] [] (one ∷ one ∷ []) ∷ series [] [] (one ∷ one ∷ []) ∷ []) (series [] [] (one ∷ one ∷ []) ∷ []) ∷ []
+dropped-not-merged : on (plainly 0) 2 (series [] [] (N ∷ N ∷ []) ∷ series [] [] (one ∷ one ∷ []) ∷ []) (series [] [] (one ∷ one ∷ []) ∷ []) ∷ on
+    (plainly 0) 2 (series [] [] (N ∷ N ∷ []) ∷ series [] [] (one ∷ one ∷ []) ∷ series [] [] (one ∷ one ∷ []) ∷ [])
+    (series [] [] (one ∷ one ∷ []) ∷ []) ∷ []
     ≡ gives 2 (series [] [] (two ∷ two ∷ []) ∷ []) ∷ refused 7 2 1 ∷ []
 unfolding computing
 dropped-not-merged = refl
 
 -- 01: per key on both sides: a key on one side only gives nothing and is never merged
-one-sided-key : on (plainly 0) 3 (series [] (press A ∷ []) (one ∷ two ∷ three ∷ []) ∷ series [] (press A ∷ []) (one ∷ two ∷ three ∷ []) ∷ []) (series [] (press B ∷ []) (one ∷ one ∷ one ∷ []) ∷ []) ≡ gives 3 []
+one-sided-key : on (plainly 0) 3 (series [] (press A ∷ []) (one ∷ two ∷ three ∷ []) ∷ series [] (press A ∷ []) (one ∷ two ∷ three ∷ []) ∷ [])
+    (series [] (press B ∷ []) (one ∷ one ∷ one ∷ []) ∷ []) ≡ gives 3 []
 unfolding computing
 one-sided-key = refl
 
@@ -112,17 +123,21 @@ names :
     on (ask 10 0 0 2 [] []) 1 (series fed (press A ∷ []) (two ∷ []) ∷ []) (series waste (press A ∷ []) (one ∷ []) ∷ []) ∷
     on (ask 10 0 0 3 [] []) 1 (series fed (press A ∷ []) (two ∷ []) ∷ []) (series waste (press A ∷ []) (one ∷ []) ∷ []) ∷
     on (ask 10 2 0 1 (nameLabel ∷ []) []) 1 (series fed (press A ∷ []) (two ∷ []) ∷ []) (series waste (press A ∷ []) (one ∷ []) ∷ []) ∷ []
-    ≡ gives 1 (series fed [] (two ∷ []) ∷ []) ∷ gives 1 (series [] [] (three ∷ []) ∷ []) ∷ gives 1 (series [] (press A ∷ []) (two ∷ []) ∷ []) ∷ gives 1 (series fed (press A ∷ []) (three ∷ []) ∷ []) ∷
-    gives 1 (series fed (press A ∷ []) (two ∷ []) ∷ []) ∷ gives 1 (series [] (press A ∷ []) (one ∷ []) ∷ []) ∷ gives 1 (series fed (press A ∷ []) (one ∷ []) ∷ []) ∷ gives 1 (series [] (press A ∷ []) (two ∷ []) ∷ []) ∷ []
+    ≡ gives 1 (series fed [] (two ∷ []) ∷ []) ∷ gives 1 (series [] [] (three ∷ []) ∷ []) ∷ gives 1
+    (series [] (press A ∷ []) (two ∷ []) ∷ []) ∷ gives 1 (series fed (press A ∷ []) (three ∷ []) ∷ []) ∷
+    gives 1 (series fed (press A ∷ []) (two ∷ []) ∷ []) ∷ gives 1 (series [] (press A ∷ []) (one ∷ []) ∷ []) ∷ gives 1
+    (series fed (press A ∷ []) (one ∷ []) ∷ []) ∷ gives 1 (series [] (press A ∷ []) (two ∷ []) ∷ []) ∷ []
 unfolding computing
 names = refl
 
 -- 01: 3 many-to-many, run as 0
-many-to-many : on (ask 0 0 3 0 [] []) 1 (series fed (press A ∷ []) (one ∷ []) ∷ []) (series waste (press A ∷ []) (one ∷ []) ∷ []) ≡ gives 1 (series [] (press A ∷ []) (two ∷ []) ∷ [])
+many-to-many : on (ask 0 0 3 0 [] []) 1 (series fed (press A ∷ []) (one ∷ []) ∷ []) (series waste (press A ∷ []) (one ∷ []) ∷ [])
+    ≡ gives 1 (series [] (press A ∷ []) (two ∷ []) ∷ [])
 unfolding computing
 many-to-many = refl
 
 -- 01: in arithmetic and comparisons a right side of one series without name and tags is matched by its key
-no-fallback : on (plainly 0) 1 (series [] (press A ∷ []) (one ∷ []) ∷ []) (series [] [] (one ∷ []) ∷ []) ∷ on (plainly 10) 1 (series [] (press A ∷ []) (one ∷ []) ∷ []) (series [] [] (one ∷ []) ∷ []) ∷ [] ≡ gives 1 [] ∷ gives 1 [] ∷ []
+no-fallback : on (plainly 0) 1 (series [] (press A ∷ []) (one ∷ []) ∷ []) (series [] [] (one ∷ []) ∷ []) ∷ on (plainly 10) 1
+    (series [] (press A ∷ []) (one ∷ []) ∷ []) (series [] [] (one ∷ []) ∷ []) ∷ [] ≡ gives 1 [] ∷ gives 1 [] ∷ []
 unfolding computing
 no-fallback = refl

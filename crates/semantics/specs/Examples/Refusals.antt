@@ -54,13 +54,15 @@ query-accepted = refl
 
 -- 01: 3, sizes cut or above a limit, a label array not of its stated length: place 0
 sizes-3 :
-    outcomes (λ l. onLeft l []) ((0 ∷ 0 ∷ 0 ∷ 0 ∷ 0 ∷ []) ∷ (1 ∷ 2 ∷ 0 ∷ 0 ∷ 0 ∷ 0 ∷ []) ∷ (0 ∷ 0 ∷ 1 ∷ 4 ∷ 0 ∷ 0 ∷ []) ∷ (1 ∷ 0 ∷ 0 ∷ 0 ∷ 3 ∷ 0 ∷ 0 ∷ 0 ∷ []) ∷ [])
+    outcomes (λ l. onLeft l [])
+    ((0 ∷ 0 ∷ 0 ∷ 0 ∷ 0 ∷ []) ∷ (1 ∷ 2 ∷ 0 ∷ 0 ∷ 0 ∷ 0 ∷ []) ∷ (0 ∷ 0 ∷ 1 ∷ 4 ∷ 0 ∷ 0 ∷ []) ∷ (1 ∷ 0 ∷ 0 ∷ 0 ∷ 3 ∷ 0 ∷ 0 ∷ 0 ∷ []) ∷ [])
     ≡ refused 3 0 0 ∷ refused 3 0 0 ∷ refused 3 0 0 ∷ refused 3 0 0 ∷ []
 unfolding computing
 sizes-3 = refl
 
 -- 512 series pass the limit, so that the first record is found missing; 1,024 points pass
-limits-pass : outcomes (λ l. onLeft l []) ((0 ∷ 2 ∷ 0 ∷ 4 ∷ 0 ∷ 0 ∷ []) ∷ []) ++ (call (plainly 0) (0 ∷ 0 ∷ 0 ∷ 4 ∷ 0 ∷ 0 ∷ []) [] (0 ∷ 0 ∷ 0 ∷ 4 ∷ 0 ∷ 0 ∷ []) [] 0 0 ∷ [])
+limits-pass : outcomes (λ l. onLeft l []) ((0 ∷ 2 ∷ 0 ∷ 4 ∷ 0 ∷ 0 ∷ []) ∷ []) ++
+    (call (plainly 0) (0 ∷ 0 ∷ 0 ∷ 4 ∷ 0 ∷ 0 ∷ []) [] (0 ∷ 0 ∷ 0 ∷ 4 ∷ 0 ∷ 0 ∷ []) [] 0 0 ∷ [])
     ≡ refused 3 0 0 ∷ answered 0 1024 [] [] ∷ []
 unfolding computing
 limits-pass = refl
@@ -108,7 +110,8 @@ unfolding computing
 readings-5 = refl
 
 -- the query is taken first, then left, then right
-taken-in-order : call [] [] [] [] [] 0 0 ∷ call (plainly 0) [] [] [] [] 0 0 ∷ call (plainly 0) none [] [] [] 0 0 ∷ [] ≡ refused 2 0 0 ∷ refused 3 0 0 ∷ refused 3 1 0 ∷ []
+taken-in-order : call [] [] [] [] [] 0 0 ∷ call (plainly 0) [] [] [] [] 0 0 ∷ call (plainly 0) none [] [] [] 0 0 ∷ []
+    ≡ refused 2 0 0 ∷ refused 3 0 0 ∷ refused 3 1 0 ∷ []
 unfolding computing
 taken-in-order = refl
 
@@ -118,23 +121,29 @@ unfolding computing
 points-6 = refl
 
 -- 01: 7 left or 8 right duplicate; fields are the input places of the series kept and the one that failed to merge. One-to-one keeps the last.
-duplicate-7 : on (plainly 0) 3 (series [] (press A ∷ []) (one ∷ two ∷ three ∷ []) ∷ series [] (press A ∷ []) (three ∷ two ∷ one ∷ []) ∷ []) (series [] (press A ∷ []) (one ∷ one ∷ one ∷ []) ∷ []) ≡ refused 7 1 0
+duplicate-7 : on (plainly 0) 3 (series [] (press A ∷ []) (one ∷ two ∷ three ∷ []) ∷ series [] (press A ∷ []) (three ∷ two ∷ one ∷ []) ∷ [])
+    (series [] (press A ∷ []) (one ∷ one ∷ one ∷ []) ∷ []) ≡ refused 7 1 0
 unfolding computing
 duplicate-7 = refl
 
-duplicate-8 : on (plainly 0) 3 (series [] (press A ∷ []) (one ∷ one ∷ one ∷ []) ∷ []) (series [] (press B ∷ []) (one ∷ one ∷ one ∷ []) ∷ series [] (press A ∷ []) (one ∷ two ∷ three ∷ []) ∷ series [] (press A ∷ []) (three ∷ two ∷ one ∷ []) ∷ []) ≡ refused 8 2 1
+duplicate-8 : on (plainly 0) 3 (series [] (press A ∷ []) (one ∷ one ∷ one ∷ []) ∷ [])
+    (series [] (press B ∷ []) (one ∷ one ∷ one ∷ []) ∷ series [] (press A ∷ []) (one ∷ two ∷ three ∷ []) ∷ series [] (press A ∷ [])
+    (three ∷ two ∷ one ∷ []) ∷ []) ≡ refused 8 2 1
 unfolding computing
 duplicate-8 = refl
 
 -- 01: left before right, within one answer series; the first in answer order
-left-before-right : on (plainly 0) 3 (series [] (press A ∷ []) (one ∷ two ∷ three ∷ []) ∷ series [] (press A ∷ []) (three ∷ two ∷ one ∷ []) ∷ []) (series [] (press A ∷ []) (one ∷ two ∷ three ∷ []) ∷ series [] (press A ∷ []) (three ∷ two ∷ one ∷ []) ∷ []) ≡ refused 7 1 0
+left-before-right : on (plainly 0) 3 (series [] (press A ∷ []) (one ∷ two ∷ three ∷ []) ∷ series [] (press A ∷ []) (three ∷ two ∷ one ∷ []) ∷ [])
+    (series [] (press A ∷ []) (one ∷ two ∷ three ∷ []) ∷ series [] (press A ∷ []) (three ∷ two ∷ one ∷ []) ∷ []) ≡ refused 7 1 0
 unfolding computing
 left-before-right = refl
 
 first-in-order :
     on (plainly 0) 3
-    (series [] (press A ∷ []) (one ∷ one ∷ one ∷ []) ∷ series [] (press B ∷ []) (one ∷ two ∷ three ∷ []) ∷ series [] (press B ∷ []) (three ∷ two ∷ one ∷ []) ∷ [])
-    (series [] (press A ∷ []) (one ∷ two ∷ three ∷ []) ∷ series [] (press A ∷ []) (three ∷ two ∷ one ∷ []) ∷ series [] (press B ∷ []) (one ∷ one ∷ one ∷ []) ∷ [])
+    (series [] (press A ∷ []) (one ∷ one ∷ one ∷ []) ∷ series [] (press B ∷ []) (one ∷ two ∷ three ∷ []) ∷ series [] (press B ∷ [])
+    (three ∷ two ∷ one ∷ []) ∷ [])
+    (series [] (press A ∷ []) (one ∷ two ∷ three ∷ []) ∷ series [] (press A ∷ []) (three ∷ two ∷ one ∷ []) ∷ series [] (press B ∷ [])
+    (one ∷ one ∷ one ∷ []) ∷ [])
     ≡ refused 8 1 0
 unfolding computing
 first-in-order = refl
@@ -150,7 +159,8 @@ manyTags =
 
 -- 01: Then 9, the answer has over 32 tags; 9 comes before 10
 tags-9 :
-    call (ask 0 1 1 0 [] (s ∷ [])) (labelPart (record { points = 1 }) (series [] manyTags (one ∷ []) ∷ [])) (one ∷ []) (labelPart (record { points = 1 }) (series [] (stock A ∷ []) (one ∷ []) ∷ [])) (one ∷ []) 0 0 ∷
+    call (ask 0 1 1 0 [] (s ∷ [])) (labelPart (record { points = 1 }) (series [] manyTags (one ∷ []) ∷ [])) (one ∷ [])
+    (labelPart (record { points = 1 }) (series [] (stock A ∷ []) (one ∷ []) ∷ [])) (one ∷ []) 0 0 ∷
     on (ask 0 1 1 0 [] []) 1 (series [] manyTags (one ∷ []) ∷ []) (series [] (stock A ∷ []) (one ∷ []) ∷ []) ∷ []
     ≡ refused 9 0 0 ∷ gives 1 (series [] manyTags (two ∷ []) ∷ []) ∷ []
 unfolding computing
@@ -163,7 +173,8 @@ lent labelRoom room =
 
 abbrev sumLent : ℕ → ℕ → Outcome
 sumLent labelRoom room =
-    call (plainly 0) (1 ∷ 0 ∷ 2 ∷ 0 ∷ 6 ∷ 0 ∷ 0 ∷ 1 ∷ 1 ∷ 112 ∷ 1 ∷ 65 ∷ []) (one ∷ one ∷ []) (1 ∷ 0 ∷ 2 ∷ 0 ∷ 6 ∷ 0 ∷ 0 ∷ 1 ∷ 1 ∷ 112 ∷ 1 ∷ 65 ∷ []) (one ∷ two ∷ []) labelRoom room
+    call (plainly 0) (1 ∷ 0 ∷ 2 ∷ 0 ∷ 6 ∷ 0 ∷ 0 ∷ 1 ∷ 1 ∷ 112 ∷ 1 ∷ 65 ∷ []) (one ∷ one ∷ []) (1 ∷ 0 ∷ 2 ∷ 0 ∷ 6 ∷ 0 ∷ 0 ∷ 1 ∷ 1 ∷ 112 ∷ 1 ∷ 65 ∷ [])
+    (one ∷ two ∷ []) labelRoom room
 
 room-10 : sumLent 6 2 ∷ sumLent 5 2 ∷ sumLent 6 1 ∷ lent 0 0 ∷ []
     ≡ answered 1 2 (0 ∷ 1 ∷ 1 ∷ 112 ∷ 1 ∷ 65 ∷ []) (two ∷ three ∷ []) ∷ refused 10 0 0 ∷ refused 10 0 0 ∷ answered 0 2 [] [] ∷ []

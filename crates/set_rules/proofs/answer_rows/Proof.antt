@@ -1,77 +1,69 @@
 -- `answer_rows` meets its contract. Assumes nothing.
-use Rattle.set_rules.proofs.Answering.{rows-below, rows-too-large, rows-too-long, rows-roomy, rows-answered}
+use Rattle.set_rules.proofs.Answering.{both-formed, rows-alone, records-listed, rows-too-large, rows-too-long}
+use Rattle.set_rules.proofs.Answering.{records-room, rows-room, rows-answered}
 use borrow.Author.Needs.{needs}
 use Rattle.set_rules.proofs.answer_rows.Statement.{statement}
 use Rattle.set_rules.proofs.answer_rows.Tie as tie
 
 tally-rows-requires : tie.Need-tally-rows-requires
 tally-rows-requires c κs =
-    let lent = c .before .before .before .before .before .before .before .before .before .before .before .before .pre .0 in
-    (lent .sides .leftSide .records, (lent .sides .rightSide .records, (rows-below lent, lent .few)))
+    let pre = c .before .before .before .before .pre in
+    (both-formed _ (pre .0), records-listed _ (pre .0) _ (pre .1 .1 .1))
 
-room-for-requires : tie.Need-room-for-requires
-room-for-requires c κs = search needs
+put-rows-requires : tie.Need-put-rows-requires
+put-rows-requires c κs =
+    let room = c .before .before .before in
+    let start = room .before .before .before .before .before .before in
+    let pre = start .pre in
+    let fits = rows-room _ (pre .0) _ (pre .1 .1 .1) (start .args .out-labels .now) (start .args .out .now) _
+    (room .before .tally-rows .ensures) _ (room .room-for .ensures) (c .before .enum-told3 .given .1) in
+    (rows-alone _ (pre .0) _ (pre .1 .0), (pre .1 .1 .0, (pre .1 .1 .1, fits)))
 
-enum-told : tie.Need-enum-told
-enum-told c = search needs
-
-enum-told-2 : tie.Need-enum-told-2
-enum-told-2 c = search needs
-
-enum-told-3 : tie.Need-enum-told-3
-enum-told-3 c = search needs
-
-put-answer-requires : tie.Need-put-answer-requires
-put-answer-requires c κs =
-    let pre = c .before .before .before .before .before .before .before .before .before .before .before .before .before .before .before .before .before .before .pre in
-    let lent = pre .0 in
-    let tally = c .before .before .before .before .before .tally-rows .ensures in
-    let asked = c .before .before .before .before .room-for .ensures in
-    let told = c .before .before .enum-told3 .given .1 in
-    (lent, (pre .1, rows-roomy lent _ _ _ _ tally _ asked told))
+put-records-requires : tie.Need-put-records-requires
+put-records-requires c κs =
+    let told = c .before .before .before .before .before in
+    let room = told .before .before in
+    let start = room .before .before .before .before .before .before in
+    let pre = start .pre in
+    let fits = records-room _ (pre .0) _ (pre .1 .1 .1) (start .args .out-labels .now) (start .args .out .now) _
+    (room .before .tally-rows .ensures) _ (room .room-for .ensures) (told .enum-told3 .given .1) in
+    (both-formed _ (pre .0), (records-listed _ (pre .0) _ (pre .1 .1 .1) .below, fits))
 
 returns : tie.Need-returns
 returns c =
-    let lent = c .before .before .before .before .before .before .before .before .before .before .before .before .before .before .before .before .pre .0 in
-    let tally = c .before .before .before .tally-rows .ensures in
-    let asked = c .before .before .room-for .ensures in
-    let told = c .enum-told .given .1 in
-    rows-too-large lent _ _ _ _ tally _ asked told
+    let room = c .before .before in
+    let pre = room .before .before .before .before .before .before .pre in
+    rows-too-large _ (pre .0) _ (pre .1 .1 .1) _ _ _ (room .before .tally-rows .ensures) _ (room .room-for .ensures) (c .enum-told .given .1) _
 
 returns-2 : tie.Need-returns-2
 returns-2 c =
-    let lent = c .before .before .before .before .before .before .before .before .before .before .before .before .before .before .before .before .pre .0 in
-    let tally = c .before .before .before .tally-rows .ensures in
-    let asked = c .before .before .room-for .ensures in
-    let told = c .enum-told2 .given .1 in
-    rows-too-long lent _ _ _ _ tally _ asked told
-
-same-length : tie.Need-same-length
-same-length c = c .before .before .before .labels .given
-
-same-length-2 : tie.Need-same-length-2
-same-length-2 c = c .before .out .given
+    let room = c .before .before in
+    let pre = room .before .before .before .before .before .before .pre in
+    rows-too-long _ (pre .0) _ (pre .1 .1 .1) _ _ _ (room .before .tally-rows .ensures) _ (room .room-for .ensures) (c .enum-told2 .given .1) _
 
 returns-3 : tie.Need-returns-3
 returns-3 c =
-    let lent = c .before .before .before .before .before .before .before .before .before .before .before .before .before .before .before .before .before .before .before .before .before .before .before .pre .0 in
-    let tally = c .before .before .before .before .before .before .before .before .before .before .tally-rows .ensures in
-    let asked = c .before .before .before .before .before .before .before .before .before .room-for .ensures in
-    let told = c .before .before .before .before .before .before .before .enum-told3 .given .1 in
-    rows-answered lent _ _ _ _ tally _ asked told _ _ _ (c .before .before .before .before .put-answer .ensures)
+    let records = c .before .before in
+    let rows = records .before .before .before .before in
+    let told = rows .before .before in
+    let room = told .before .before in
+    let pre = room .before .before .before .before .before .before .pre in
+    rows-answered _ (pre .0) _ (pre .1 .1 .1) _ _ _ (room .before .tally-rows .ensures) _ (room .room-for .ensures) (told .enum-told3 .given .1)
+    _ _ _ _ (records .put-records .ensures) (rows .put-rows .ensures)
 
 pub answer-rows-spec : {M : Type 1} → statement M
 answer-rows-spec =
     tie.close
     (tie.spec
     tally-rows-requires
-    room-for-requires
-    enum-told
-    enum-told-2
-    enum-told-3
-    put-answer-requires
+    (λ c κs. search needs)
+    (λ c. search needs)
+    (λ c. search needs)
+    (λ c. search needs)
+    put-rows-requires
+    put-records-requires
     returns
     returns-2
-    same-length
-    same-length-2
+    (λ c. search needs)
+    (λ c. search needs)
     returns-3)

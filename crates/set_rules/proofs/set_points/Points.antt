@@ -1,4 +1,5 @@
--- A set rule point by point: on the reading that the search gives, over one right row, and the loops that write a row or look for a reading in it. Assumes nothing.
+-- A set rule point by point: on the reading that the search gives, over one right row, and the loops that write a row or look for
+-- a reading in it. Assumes nothing.
 use Prim.Native.Nat.{ℕ, suc, _+_, _*_, _≤_, _<_}
 use mathlib.Core.Path.{_≡_, refl, sym, ap, _∙_}
 use mathlib.Core.Bool.{Bool, true, false, not, cond}
@@ -10,15 +11,14 @@ use native.Mathlib.Omega.{arith}
 use lib.Ieee.{nanBits}
 use lib.ListN.{length, getD, take, drop, set, length-set, length-take, length-drop, drop-of-length-le}
 use lib.Seq.{drop-cons, take-suc-set, append-snoc, take-all, getD-take, getD-drop}
-use Rattle.operator.specs.Kinds.{SetRule, whereFound, whereNone, filled}
+use Rattle.operator.specs.Kinds.{SetRule, filled}
 use Rattle.model.specs.Lists.{cases}
 use Rattle.model.specs.Reading.{missing, noReading}
 use Rattle.model.specs.Row.{onlyMissing, zipWith}
 use Rattle.semantics.specs.Binop.{pointwise}
-use Rattle.plan.specs.Merging.{rowAt}
+use Rattle.side_parts.specs.Sides.{rowAt}
 use Rattle.plan.specs.Sets.{firstAt, setPoint, setRow}
-use Rattle.set_rules.specs.binaryop.Leaves.{whereReading, whereMissing, filledFrom}
-use Rattle.set_rules.specs.set_points.Points.{readingOf, onReading}
+use Rattle.set_rules.specs.set_points.Points.{readingOf, present, onReading}
 use Rattle.set_rules.proofs.set_points.Searching.{any-default}
 
 -- the rule on what the search gives
@@ -37,70 +37,67 @@ unfolding firstAt
 found-present p rows i [] = tt
 found-present p rows i (j ∷ places) = cases (missing (getD rows (j * p + i) noReading)) (λ e. rw e (found-present p rows i places)) (λ e. rw e e)
 
--- any missing right reading does as the one that is written
-on-missing : (rule : SetRule) (x y : ℕ) → missing y ≡ true → setPoint rule none x ≡ onReading rule x y
-unfolding whereReading whereMissing filledFrom
-on-missing whereFound x y h = rw h
-on-missing whereNone x y h = rw h
-on-missing filled x y h = rw h (same (missing x))
-  where
-    same : (b : Bool) → x ≡ cond b x x
-    same true = refl
-    same false = refl
+told-again : (o : Option ℕ) → Present o → present (readingOf o) ≡ o
+told-again none h = rw none-missing
+told-again (some y) h = rw h
 
-on-present : (rule : SetRule) (o : Option ℕ) (x : ℕ) → Present o → setPoint rule o x ≡ onReading rule x (readingOf o)
-unfolding whereReading whereMissing filledFrom
-on-present whereFound none x h = on-missing whereFound x noReading none-missing
-on-present whereFound (some y) x h = rw h
-on-present whereNone none x h = on-missing whereNone x noReading none-missing
-on-present whereNone (some y) x h = rw h
-on-present filled none x h = on-missing filled x noReading none-missing
-on-present filled (some y) x h = rw h
-
-pub on-search : (rule : SetRule) (p : ℕ) (rows : List ℕ) (i : ℕ) (places : List ℕ) (x : ℕ) → setPoint rule (firstAt p rows i places) x ≡ onReading rule x (readingOf (firstAt p rows i places))
-on-search rule p rows i places x = on-present rule (firstAt p rows i places) x (found-present p rows i places)
+pub on-search : (rule : SetRule) (p : ℕ) (rows : List ℕ) (i : ℕ) (places : List ℕ) (x : ℕ)
+    → setPoint rule (firstAt p rows i places) x ≡ onReading rule x (readingOf (firstAt p rows i places))
+unfolding onReading
+on-search rule p rows i places x =
+    ap (λ (o : Option ℕ). setPoint rule o x) (sym (told-again (firstAt p rows i places) (found-present p rows i places)))
 
 -- a reading that is there is not filled
 pub filled-stays : (x y : ℕ) (b : Bool) → b ≡ missing x → b ≡ false → x ≡ onReading filled x y
-unfolding filledFrom
-filled-stays x y b told h = rw (← told, h)
+unfolding onReading
+filled-stays x y b told h = cases (missing y) (λ e. rw e) (λ e. rw (e, ← told, h))
 
 -- over one right row
 
-zip-points : (f g : ℕ → ℕ → ℕ) (k : ℕ) (xs ys : List ℕ) → length xs ≡ length ys → ((i : ℕ) → i < length xs → (x : ℕ) → g (k + i) x ≡ f x (getD ys i 0)) → pointwise g k xs ≡ zipWith f xs ys
+zip-points : (f g : ℕ → ℕ → ℕ) (k : ℕ) (xs ys : List ℕ) → length xs ≡ length ys
+    → ((i : ℕ) → i < length xs → (x : ℕ) → g (k + i) x ≡ f x (getD ys i 0)) → pointwise g k xs ≡ zipWith f xs ys
 unfolding zipWith
 zip-points f g k [] ys e h = refl
 zip-points f g k (x ∷ xs) [] e h = absurd (omega arith)
 zip-points f g k (x ∷ xs) (y ∷ ys) e h =
     let first : g k x ≡ f x y = ap (λ (n : ℕ). g n x) (sym (add-zero k)) ∙ h 0 (omega arith) x in
-    rw (first, zip-points f g (suc k) xs ys (omega arith) (λ i l z. ap (λ (n : ℕ). g n z) (suc-add k i ∙ sym (add-suc k i)) ∙ h (suc i) (omega arith) z))
+    rw (
+      first,
+      zip-points f g (suc k) xs ys (omega arith)
+          (λ i l z. ap (λ (n : ℕ). g n z) (suc-add k i ∙ sym (add-suc k i)) ∙ h (suc i) (omega arith) z),
+    )
 
-one-point : (rule : SetRule) (p : ℕ) (rows : List ℕ) (i j x : ℕ) → setPoint rule (firstAt p rows i (j ∷ [])) x ≡ onReading rule x (getD rows (j * p + i) noReading)
-unfolding firstAt
-one-point rule p rows i j x = go (getD rows (j * p + i) noReading)
-  where
-    go : (y : ℕ) → setPoint rule (cond (missing y) none (some y)) x ≡ onReading rule x y
-    go y = cases (missing y) (λ e. rw e (on-missing rule x y e)) (λ e. rw e (on-present rule (some y) x e))
+one-point : (rule : SetRule) (p : ℕ) (rows : List ℕ) (i j x : ℕ)
+    → setPoint rule (firstAt p rows i (j ∷ [])) x ≡ onReading rule x (getD rows (j * p + i) noReading)
+unfolding firstAt onReading
+one-point rule p rows i j x = refl
 
 -- where one right series matches, a row loop does as the search
-pub set-one : (rule : SetRule) (rows : List ℕ) (j : ℕ) (x : List ℕ) → j * length x + length x ≤ length rows → setRow rule (length x) rows (j ∷ []) x ≡ zipWith (onReading rule) x (rowAt (length x) rows j)
+pub set-one : (rule : SetRule) (rows : List ℕ) (j : ℕ) (x : List ℕ) → j * length x + length x ≤ length rows
+    → setRow rule (length x) rows (j ∷ []) x ≡ zipWith (onReading rule) x (rowAt (length x) rows j)
 unfolding setRow
 set-one rule rows j x h =
     zip-points (onReading rule) (λ i. setPoint rule (firstAt (length x) rows i (j ∷ []))) 0 x (rowAt (length x) rows j)
     (simp (length-take, length-drop) (omega arith))
     (λ i l y. at-point i l y)
   where
-    at-point : (i : ℕ) → i < length x → (y : ℕ) → setPoint rule (firstAt (length x) rows (0 + i) (j ∷ [])) y ≡ onReading rule y (getD (rowAt (length x) rows j) i 0)
+    at-point : (i : ℕ) → i < length x → (y : ℕ)
+        → setPoint rule (firstAt (length x) rows (0 + i) (j ∷ [])) y ≡ onReading rule y (getD (rowAt (length x) rows j) i 0)
     at-point i l y =
         let k : j * length x + i < length rows = omega arith in
-        rw (zero-add i, getD-take (length x) (drop (j * length x) rows) i 0 l, getD-drop (j * length x) rows i 0, any-default rows (j * length x + i) 0 noReading k) (one-point rule (length x) rows i j y)
+        rw (zero-add i, getD-take (length x) (drop (j * length x) rows) i 0 l, getD-drop (j * length x) rows i 0)
+        (rw (any-default rows (j * length x + i) 0 noReading k) (one-point rule (length x) rows i j y))
+
+-- the points of a row from the place i on, under a rule
+abbrev pointsFrom : SetRule → ℕ → List ℕ → List ℕ → ℕ → List ℕ → List ℕ
+pointsFrom rule p rows places i xs = pointwise (λ j. setPoint rule (firstAt p rows j places)) i xs
 
 -- a row written point by point: i points are written
 
 pub record SetWriting (rule : SetRule) (rows places left before row : List ℕ) (i : ℕ) : Type 0 where
   pub long : length row ≡ length before
   pub reached : i ≤ length row
-  pub rest : take i row ++ pointwise (λ j. setPoint rule (firstAt (length left) rows j places)) i (drop i left) ≡ setRow rule (length left) rows places left
+  pub rest : take i row ++ pointsFrom rule (length left) rows places i (drop i left) ≡ setRow rule (length left) rows places left
 
 module _ (rule : SetRule) (rows places left before : List ℕ) where
   pub set-starts : SetWriting rule rows places left before before 0
@@ -108,10 +105,15 @@ module _ (rule : SetRule) (rows places left before : List ℕ) where
   set-starts = record { long = refl; reached = omega arith; rest = refl }
 
   module _ (row : List ℕ) (i : ℕ) (w : SetWriting rule rows places left before row i) (same : length left ≡ length before) where
-    step : (v y : ℕ) → v ≡ onReading rule (getD left i 0) y → y ≡ readingOf (firstAt (length left) rows i places) → i < length left → i < length row → take (i + 1) (set row i v) ++ pointwise (λ j. setPoint rule (firstAt (length left) rows j places)) (i + 1) (drop (i + 1) left) ≡ take i row ++ pointwise (λ j. setPoint rule (firstAt (length left) rows j places)) i (drop i left)
-    step v y e f hl ho = rw (e, f, ← on-search rule (length left) rows i places (getD left i 0), add-one, take-suc-set, append-snoc, drop-cons left i 0 hl)
+    step : (v y : ℕ) → v ≡ onReading rule (getD left i 0) y → y ≡ readingOf (firstAt (length left) rows i places)
+        → i < length left → i < length row
+        → take (i + 1) (set row i v) ++ pointsFrom rule (length left) rows places (i + 1) (drop (i + 1) left)
+        ≡ take i row ++ pointsFrom rule (length left) rows places i (drop i left)
+    step v y e f hl ho =
+        rw (e, f, ← on-search rule (length left) rows i places (getD left i 0), add-one, take-suc-set, append-snoc, drop-cons left i 0 hl)
 
-    pub set-turn : (v y : ℕ) → v ≡ onReading rule (getD left i 0) y → y ≡ readingOf (firstAt (length left) rows i places) → i < length row → SetWriting rule rows places left before (set row i v) (i + 1)
+    pub set-turn : (v y : ℕ) → v ≡ onReading rule (getD left i 0) y → y ≡ readingOf (firstAt (length left) rows i places)
+        → i < length row → SetWriting rule rows places left before (set row i v) (i + 1)
     set-turn v y e f h = record {
       long = simp length-set (w .long);
       reached = simp length-set (omega arith);
@@ -127,7 +129,7 @@ module _ (rule : SetRule) (rows places left before : List ℕ) where
 
 pub record Leaving (rule : SetRule) (rows places left : List ℕ) (i : ℕ) : Type 0 where
   pub reached : i ≤ length left
-  pub rest : onlyMissing (pointwise (λ j. setPoint rule (firstAt (length left) rows j places)) i (drop i left)) ≡ onlyMissing (setRow rule (length left) rows places left)
+  pub rest : onlyMissing (pointsFrom rule (length left) rows places i (drop i left)) ≡ onlyMissing (setRow rule (length left) rows places left)
 
 module _ (rule : SetRule) (rows places left : List ℕ) where
   pub leaves-starts : Leaving rule rows places left 0
@@ -135,8 +137,10 @@ module _ (rule : SetRule) (rows places left : List ℕ) where
   leaves-starts = record { reached = omega arith; rest = refl }
 
   module _ (i : ℕ) (w : Leaving rule rows places left i) where
-    module _ (h : i < length left) (v y : ℕ) (e : v ≡ onReading rule (getD left i 0) y) (f : y ≡ readingOf (firstAt (length left) rows i places)) (b : Bool) (told : b ≡ missing v) where
-      looked : onlyMissing (pointwise (λ j. setPoint rule (firstAt (length left) rows j places)) i (drop i left)) ≡ cond b (onlyMissing (pointwise (λ j. setPoint rule (firstAt (length left) rows j places)) (suc i) (drop (suc i) left))) false
+    module _ (h : i < length left) (v y : ℕ) (e : v ≡ onReading rule (getD left i 0) y)
+        (f : y ≡ readingOf (firstAt (length left) rows i places)) (b : Bool) (told : b ≡ missing v) where
+      looked : onlyMissing (pointsFrom rule (length left) rows places i (drop i left))
+          ≡ cond b (onlyMissing (pointsFrom rule (length left) rows places (suc i) (drop (suc i) left))) false
       unfolding onlyMissing
       looked = rw (drop-cons left i 0 h, on-search rule (length left) rows i places (getD left i 0), ← f, ← e, ← told)
 

@@ -11,7 +11,7 @@ use lib.Seq.{drop-cons}
 use Rattle.model.specs.Reading.{missing, noReading}
 use Rattle.plan.specs.Sets.{firstAt}
 use Rattle.set_rules.specs.set_points.Points.{readingOf}
-use Rattle.noting.specs.Places.{Within}
+use Rattle.index_lists.specs.Places.{Within}
 
 -- within a list the default is not asked for
 pub any-default : (l : List ℕ) (i a b : ℕ) → i < length l → getD l i a ≡ getD l i b
@@ -33,7 +33,10 @@ module _ (p : ℕ) (rows : List ℕ) (i : ℕ) (places : List ℕ) where
       pub point-within : getD places j 0 * p + i < length rows
       point-within = omega (arith, inside .each j h)
 
-      here : firstAt p rows i (drop j places) ≡ cond (missing (getD rows (getD places j 0 * p + i) 0)) (firstAt p rows i (drop (suc j) places)) (some (getD rows (getD places j 0 * p + i) 0))
+      abbrev at : ℕ
+      at = getD rows (getD places j 0 * p + i) 0
+
+      here : firstAt p rows i (drop j places) ≡ cond (missing at) (firstAt p rows i (drop (suc j) places)) (some at)
       unfolding firstAt
       here = rw (drop-cons places j 0 h, any-default rows (getD places j 0 * p + i) noReading 0 point-within)
 

@@ -3,22 +3,20 @@ use Prim.Native.Nat.{ℕ, suc, _+_, _-_, _*_, _≤_, _<_}
 use mathlib.Core.Path.{_≡_, refl, sym, ap, _∙_}
 use mathlib.Core.Bool.{Bool, true, false, cond}
 use mathlib.Core.List.{List, [], _∷_}
-use native.Mathlib.Omega.{arith}
 use lib.Dec.{ltb}
 use lib.ListN.{length, getD}
 use borrow.Author.Tests.{lt-ltb, le-ltb, ltb-true, ltb-false}
 use Rattle.operator.specs.Kinds.{SetRule}
 use Rattle.model.specs.Lists.{isEmpty}
 use Rattle.semantics.specs.Binop.{pointwise}
-use Rattle.plan.specs.Merging.{rowAt}
-use Rattle.plan.specs.Sets.{metPlaces, setPoint, firstAt, setRow, leftRow}
-use Rattle.answers.proofs.Rows as Rows
+use Rattle.side_parts.specs.Sides.{rowAt}
+use Rattle.side_parts.specs.Lent.{Sides}
+use Rattle.plan.specs.Sets.{SetWork, metPlaces, setPoint, firstAt, setRow, leftRow, setReadings}
 use Rattle.answers.proofs.Rows.{row-width, RowsWriting, rows-start}
-use Rattle.noting.specs.Places.{RightSide}
-use Rattle.set_sides.specs.Sides.{RowSide, rowSides, rowReadings, RowsBelow}
-use Rattle.set_sides.proofs.Sides.{row-in}
+use Rattle.set_rules.specs.Answers.{SetHeld, rowCount, RowsListed}
+use Rattle.set_rules.proofs.Sides.{row-in, row-behind}
 
--- one row
+-- how wide a left row is once the rule is done
 
 point-count : (f : ℕ → ℕ → ℕ) (i : ℕ) (xs : List ℕ) → length (pointwise f i xs) ≡ length xs
 point-count f i [] = refl
@@ -35,40 +33,55 @@ left-count rule p rows places x = go (isEmpty places)
     go true = refl
     go false = set-count rule p rows places x
 
--- a row and the part that it is written into have one width
-pub right-start : (falls : Bool) (p n : ℕ) (keys rows : List ℕ) (x : ℕ) → RightSide falls p keys rows → n ≤ x → x < n + length keys → (x - n) * p + p ≤ length rows
-right-start falls p n keys rows x s h k = let l : x - n < length keys = omega arith in rw (s .size) (Rows.row-in (x - n) (length keys) p l)
+-- one row
 
-pub right-meets : (falls : Bool) (p n : ℕ) (keys rows : List ℕ) (x : ℕ) (row out : List ℕ) → RightSide falls p keys rows → n ≤ x → x < n + length keys → row ≡ rowAt p rows (x - n) → length out ≡ p → length row ≡ length out
-right-meets falls p n keys rows x row out s h k e w =
-    row-width p rows row (x - n) (right-start falls p n keys rows x s h k) e ∙ sym w
+module _ (falls : Bool) (s : Sides) (held : SetHeld falls s) (x : ℕ) where
+  module _ (h : x < length (s .left .keys)) where
+    left-in : x * s .shape .points + s .shape .points ≤ length (s .left .rows)
+    left-in = row-in (s .shape .points) (s .left .keys) (s .left .rows) x (held .left) h
 
-module _ (rule : SetRule) (falls : Bool) (p : ℕ) (lkeys left keys rows : List ℕ) where
-  module _ (side : RowSide p lkeys left) (x : ℕ) (h : x < length lkeys) (row : List ℕ) (e : row ≡ rowAt p left x) where
-    pub left-wide : length row ≡ p
-    left-wide = row-width p left row x (row-in p lkeys left x side h) e
+    module _ (row : List ℕ) (e : row ≡ rowAt (s .shape .points) (s .left .rows) x) where
+      left-wide : length row ≡ s .shape .points
+      left-wide = row-width (s .shape .points) (s .left .rows) row x left-in e
 
-    pub left-is : (out : List ℕ) → out ≡ leftRow rule (length row) rows (metPlaces falls keys (getD lkeys x 0)) row → out ≡ rowReadings (rowSides rule falls false p lkeys left keys rows) x
-    left-is out f = f ∙ (rw (left-wide, e, lt-ltb x (length lkeys) h))
+      pub left-meets : (out : List ℕ) → length out ≡ s .shape .points → length row ≡ length out
+      left-meets out h = left-wide ∙ sym h
 
-  module _ (side : RightSide falls p keys rows) (x : ℕ) (h : length lkeys ≤ x) (k : x < length lkeys + length keys) where
-    module _ (row : List ℕ) (e : row ≡ rowAt p rows (x - length lkeys)) where
-      pub right-wide : length row ≡ p
-      right-wide = row-width p rows row (x - length lkeys) (right-start falls p (length lkeys) keys rows x side h k) e
+      pub left-is : (w : SetWork) (out : List ℕ)
+          → out ≡ leftRow (w .rule) (length row) (s .right .rows) (metPlaces (w .falls) (s .right .keys) (getD (s .left .keys) x 0)) row
+          → out ≡ setReadings w s x
+      left-is w out f = f ∙ (rw (left-wide, e, lt-ltb x (length (s .left .keys)) h))
 
-      pub right-is : (out : List ℕ) → out ≡ row → out ≡ rowReadings (rowSides rule falls false p lkeys left keys rows) x
-      right-is out f = f ∙ e ∙ (rw (le-ltb x (length lkeys) h))
+  module _ (h : length (s .left .keys) ≤ x) (k : x < rowCount s) where
+    right-in : (x - length (s .left .keys)) * s .shape .points + s .shape .points ≤ length (s .right .rows)
+    right-in = row-behind (s .shape .points) (length (s .left .keys)) (s .right .keys) (s .right .rows) x (held .right .held) h k
 
-  -- all of them
-  module _ (side : RowSide p lkeys left) (right : RightSide falls p keys rows) where
-    readings-wide : (x : ℕ) → x < length lkeys + length keys → (b : Bool) → ltb x (length lkeys) ≡ b → length (rowReadings (rowSides rule falls false p lkeys left keys rows) x) ≡ p
-    readings-wide x k true t =
-        let h : x < length lkeys = ltb-true x (length lkeys) t in
-        rw t (left-count rule p rows (metPlaces falls keys (getD lkeys x 0)) (rowAt p left x) ∙ row-width p left (rowAt p left x) x (row-in p lkeys left x side h) refl)
-    readings-wide x k false t =
-        let h : length lkeys ≤ x = ltb-false x (length lkeys) t in
-        rw t (right-wide right x h k (rowAt p rows (x - length lkeys)) refl)
+    module _ (row : List ℕ) (e : row ≡ rowAt (s .shape .points) (s .right .rows) (x - length (s .left .keys))) where
+      right-wide : length row ≡ s .shape .points
+      right-wide = row-width (s .shape .points) (s .right .rows) row (x - length (s .left .keys)) right-in e
 
-    pub put-starts : (list out : List ℕ) → RowsBelow (length lkeys + length keys) list → length list * p ≤ length out → RowsWriting (rowReadings (rowSides rule falls false p lkeys left keys rows)) p list out 0 out
-    put-starts list out b h =
-        rows-start (rowReadings (rowSides rule falls false p lkeys left keys rows)) p list out (record { each = λ i l. readings-wide (getD list i 0) (b .each i l) (ltb (getD list i 0) (length lkeys)) refl }) h
+      pub right-meets : (out : List ℕ) → length out ≡ s .shape .points → length row ≡ length out
+      right-meets out h = right-wide ∙ sym h
+
+      pub right-is : (w : SetWork) (out : List ℕ) → out ≡ row → out ≡ setReadings w s x
+      right-is w out f = f ∙ e ∙ (rw (le-ltb x (length (s .left .keys)) h))
+
+-- all of them
+
+module _ (w : SetWork) (falls : Bool) (s : Sides) (held : SetHeld falls s) where
+  readings-wide : (x : ℕ) → x < rowCount s → (b : Bool) → ltb x (length (s .left .keys)) ≡ b → length (setReadings w s x) ≡ s .shape .points
+  readings-wide x k true t =
+      let h : x < length (s .left .keys) = ltb-true x (length (s .left .keys)) t in
+      let row = rowAt (s .shape .points) (s .left .rows) x in
+      rw t (left-count (w .rule) (s .shape .points) (s .right .rows) (metPlaces (w .falls) (s .right .keys) (getD (s .left .keys) x 0)) row
+      ∙ left-wide falls s held x h row refl)
+  readings-wide x k false t =
+      let h : length (s .left .keys) ≤ x = ltb-false x (length (s .left .keys)) t in
+      rw t (right-wide falls s held x h k (rowAt (s .shape .points) (s .right .rows) (x - length (s .left .keys))) refl)
+
+  pub put-starts : (list out : List ℕ) → RowsListed (rowCount s) list → length list * s .shape .points ≤ length out
+      → RowsWriting (setReadings w s) (s .shape .points) list out 0 out
+  put-starts list out b h =
+      rows-start (setReadings w s) (s .shape .points) list out
+      (record { each = λ i l. readings-wide (getD list i 0) (b .below .each i l) (ltb (getD list i 0) (length (s .left .keys))) refl })
+      h

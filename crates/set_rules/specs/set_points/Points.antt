@@ -1,10 +1,11 @@
--- A set rule at one point: on the code's rule, and on a right reading that may be missing. Assumes nothing.
+-- A set rule at one point: the code's rule, and a right reading that may be missing. Assumes nothing.
 use Prim.Native.Nat.{ℕ}
+use mathlib.Core.Bool.{cond}
 use mathlib.Core.Option.{Option, none, some}
 use Rattle.operator.specs.Kinds as K
 use Rattle.operator.specs.Kinds.{whereFound, whereNone, filled}
-use Rattle.model.specs.Reading.{noReading}
-use Rattle.set_rules.specs.binaryop.Leaves.{whereReading, whereMissing, filledFrom}
+use Rattle.model.specs.Reading.{missing, noReading}
+use Rattle.plan.specs.Sets.{setPoint}
 use Rattle.set_rules.specs.declared.set_points.SetRule.{SetRule}
 use Rattle.set_rules.specs.declared.set_points.SetRule.the-variants.{WhereFound, WhereNone, Filled}
 
@@ -19,8 +20,10 @@ abbrev pub readingOf : Option ℕ → ℕ
 readingOf none = noReading
 readingOf (some y) = y
 
--- the rule on a left reading and the right one that a search gives
-abbrev pub onReading : K.SetRule → ℕ → ℕ → ℕ
-onReading whereFound x y = whereReading x y
-onReading whereNone x y = whereMissing x y
-onReading filled x y = filledFrom x y
+-- what a reading tells
+abbrev pub present : ℕ → Option ℕ
+present y = cond (missing y) none (some y)
+
+-- the rule on a left reading and one right reading
+unfoldable pub onReading : K.SetRule → ℕ → ℕ → ℕ
+onReading rule x y = setPoint rule (present y) x

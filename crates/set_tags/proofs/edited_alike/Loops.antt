@@ -33,20 +33,24 @@ module _ (join skip : Names) (many a b : List ℕ) (v w : Walk) (want : Bool) (i
 
   pub first-ends : x ≡ E.End → (t : Bool) (start end : ℕ) (rest : Walk) → y ≡ E.Tag t start end rest → false ≡ want
   unfolding sameTags
-  first-ends ex t start end rest ey = sym (inv .asked ∙ rw (edit-ended join skip many a v x hx ex, edit-first join skip many b w y hy t start end rest ey .first))
+  first-ends ex t start end rest ey =
+      sym (inv .asked ∙ rw (edit-ended join skip many a v x hx ex, edit-first join skip many b w y hy t start end rest ey .first))
 
   module _ (t : Bool) (start end : ℕ) (rest : Walk) (ex : x ≡ E.Tag t start end rest) where
     pub second-ends : y ≡ E.End → false ≡ want
     unfolding sameTags
     second-ends ey = sym (inv .asked ∙ rw (edit-ended join skip many b w y hy ey, edit-first join skip many a v x hx t start end rest ex .first))
 
-    module _ (u : Bool) (begin stop : ℕ) (behind : Walk) (ey : y ≡ E.Tag u begin stop behind) (c d : List ℕ) (hc : c ≡ take (end - start) (drop start (cond t a many)))
+    module _ (u : Bool) (begin stop : ℕ) (behind : Walk) (ey : y ≡ E.Tag u begin stop behind) (c d : List ℕ)
+        (hc : c ≡ take (end - start) (drop start (cond t a many)))
         (hd : d ≡ take (stop - begin) (drop begin (cond u b many))) (r : Bool) (hr : r ≡ sameBytes c d) where
       compared : want ≡ (r && sameTags (tagsLeft join skip many a rest) (tagsLeft join skip many b behind))
       compared =
           let fx = edit-first join skip many a v x hx t start end rest ex in
           let fy = edit-first join skip many b w y hy u begin stop behind ey in
-          inv .asked ∙ rw (fx .first, fy .first) (same-tag (fx .tag) (fy .tag) (tagsLeft join skip many a rest) (tagsLeft join skip many b behind) ∙ rw (hr, hc, hd, fx .bytes, fy .bytes))
+          inv .asked ∙ rw (fx .first, fy .first)
+          (same-tag (fx .tag) (fy .tag) (tagsLeft join skip many a rest) (tagsLeft join skip many b behind)
+          ∙ rw (hr, hc, hd, fx .bytes, fy .bytes))
 
       pub tags-differ : r ≡ false → false ≡ want
       tags-differ e = sym (compared ∙ rw e)
@@ -59,17 +63,23 @@ module _ (join skip : Names) (many a b : List ℕ) (v w : Walk) (want : Bool) (i
 pub record HashLeft (join skip : Names) (many source : List ℕ) (w : Walk) (h want : ℕ) : Type 0 where
   pub asked : want ≡ hashBytes h (encodeTags (tagsLeft join skip many source w))
 
-pub hash-start : (join skip : Names) (many source : List ℕ) (w : Walk) → WalkOf many source w → HashLeft join skip many source w 0 (hashOf (editedTags join skip many source))
+pub hash-start : (join skip : Names) (many source : List ℕ) (w : Walk) → WalkOf many source w
+    → HashLeft join skip many source w 0 (hashOf (editedTags join skip many source))
 unfolding hashOf
 hash-start join skip many source w hw = record { asked = rw (hw .tags join skip) }
 
-module _ (join skip : Names) (many source : List ℕ) (w : Walk) (h want : ℕ) (inv : HashLeft join skip many source w h want) (x : Edited) (hx : EditedAt join skip many source w x) where
+module _ (join skip : Names) (many source : List ℕ) (w : Walk) (h want : ℕ) (inv : HashLeft join skip many source w h want)
+    (x : Edited) (hx : EditedAt join skip many source w x) where
   pub hash-done : x ≡ E.End → h ≡ want
   unfolding encodeTags hashBytes
   hash-done ex = sym (inv .asked ∙ rw (edit-ended join skip many source w x hx ex))
 
-  pub hash-turn : (t : Bool) (start end : ℕ) (rest : Walk) → x ≡ E.Tag t start end rest → (c : List ℕ) → c ≡ take (end - start) (drop start (cond t source many)) → (r : ℕ) → r ≡ hashBytes h c
+  pub hash-turn : (t : Bool) (start end : ℕ) (rest : Walk) → x ≡ E.Tag t start end rest → (c : List ℕ)
+      → c ≡ take (end - start) (drop start (cond t source many)) → (r : ℕ) → r ≡ hashBytes h c
       → HashLeft join skip many source rest r want
   hash-turn t start end rest ex c hc r hr =
       let f = edit-first join skip many source w x hx t start end rest ex in
-      record { asked = inv .asked ∙ rw (f .first, encode-tag, hr, hc, f .bytes) (hash-append h (encodeTag (f .tag)) (encodeTags (tagsLeft join skip many source rest))) }
+      record {
+        asked = inv .asked
+            ∙ rw (f .first, encode-tag, hr, hc, f .bytes) (hash-append h (encodeTag (f .tag)) (encodeTags (tagsLeft join skip many source rest)));
+      }

@@ -9,7 +9,8 @@ use Rattle.set_tags.proofs.edited_size.Statement.{statement}
 use Rattle.set_tags.proofs.edited_size.Tie as tie
 
 abbrev Inv-loop : tie.InvT-loop
-Inv-loop many source join skip w₀ tags₀ bytes₀ w tags bytes = SizeLeft (namesOf join) (namesOf skip) many source w tags bytes (editedTags (namesOf join) (namesOf skip) many source)
+Inv-loop many source join skip w₀ tags₀ bytes₀ w tags bytes =
+    SizeLeft (namesOf join) (namesOf skip) many source w tags bytes (editedTags (namesOf join) (namesOf skip) many source)
 
 abbrev μ-loop : tie.MeasureT-loop
 μ-loop many source join skip w₀ tags₀ bytes₀ w tags bytes = w .left + w .more

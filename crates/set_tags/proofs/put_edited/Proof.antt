@@ -10,7 +10,8 @@ use Rattle.set_tags.proofs.put_edited.Statement.{statement}
 use Rattle.set_tags.proofs.put_edited.Tie as tie
 
 abbrev Inv-loop : tie.InvT-loop
-Inv-loop out₀ at many source join skip w₀ o₀ out w o = PutLeft (namesOf join) (namesOf skip) many source w out₀ at (encodeTags (editedTags (namesOf join) (namesOf skip) many source)) out o
+Inv-loop out₀ at many source join skip w₀ o₀ out w o =
+    PutLeft (namesOf join) (namesOf skip) many source w out₀ at (encodeTags (editedTags (namesOf join) (namesOf skip) many source)) out o
 
 abbrev μ-loop : tie.MeasureT-loop
 μ-loop out₀ at many source join skip w₀ o₀ out w o = w .left + w .more

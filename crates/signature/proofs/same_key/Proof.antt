@@ -12,7 +12,9 @@ use Rattle.signature.proofs.same_key.Statement.{statement}
 use Rattle.signature.proofs.same_key.Tie as tie
 
 abbrev Inv-loop : tie.InvT-loop
-Inv-loop a b matching list p₀ m₀ q₀ n₀ p m q n = SameLeft (keyOf (matchingOf matching) (namesOf list)) a b m p n q (sameTags (recordKey (matchingOf matching) list a) (recordKey (matchingOf matching) list b))
+Inv-loop a b matching list p₀ m₀ q₀ n₀ p m q n =
+    SameLeft (keyOf (matchingOf matching) (namesOf list)) a b m p n q
+    (sameTags (recordKey (matchingOf matching) list a) (recordKey (matchingOf matching) list b))
 
 abbrev μ-loop : tie.MeasureT-loop
 μ-loop a b matching list p₀ m₀ q₀ n₀ p m q n = m

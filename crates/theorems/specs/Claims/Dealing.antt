@@ -44,7 +44,8 @@ wholeNumber d (b ∷ bs) i = cond (d zero) (nextNumber i (wholeNumber (λ j. d (
 
 -- the pile's i-th series is the side's at its whole number
 abbrev pub WholeNumbers : Type 0
-WholeNumbers = (d : ℕ → Bool) (bs : List Series) (i : ℕ) (x : Series) → i < length (pick d bs) → (getD (pick d bs) i x ≡ getD bs (wholeNumber d bs i) x) × (d (wholeNumber d bs i) ≡ true)
+WholeNumbers = (d : ℕ → Bool) (bs : List Series) (i : ℕ) (x : Series) → i < length (pick d bs)
+    → (getD (pick d bs) i x ≡ getD bs (wholeNumber d bs i) x) × (d (wholeNumber d bs i) ≡ true)
 
 -- 01: A series keeps its whole place, the one on its undealt side.
 abbrev pub wholePlaces : Deal → List Series → List Series → Renumber

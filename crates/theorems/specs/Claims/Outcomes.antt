@@ -29,21 +29,28 @@ pub data OutcomeOf (s ll lr rl rr : List ℕ) (labelRoom room : ℕ) : Outcome �
   number-1 : takeQuery s ≡ badOperator → OutcomeOf s ll lr rl rr labelRoom room (refused 1 0 0)
   number-2 : takeQuery s ≡ malformed → OutcomeOf s ll lr rl rr labelRoom room (refused 2 0 0)
   -- 01: Taking a vector, left before right: 3; 4; 5. Fields: side, series place
-  left-3-to-5 : (q : Query) → takeQuery s ≡ query q → (n place : ℕ) → 3 ≤ n → n ≤ 5 → takeVector 0 ll lr ≡ faulty n 0 place → OutcomeOf s ll lr rl rr labelRoom room (refused n 0 place)
-  right-3-to-5 : (q : Query) → takeQuery s ≡ query q → (l : Vector) → takeVector 0 ll lr ≡ vector l → (n place : ℕ) → 3 ≤ n → n ≤ 5 → takeVector 1 rl rr ≡ faulty n 1 place
+  left-3-to-5 : (q : Query) → takeQuery s ≡ query q → (n place : ℕ) → 3 ≤ n → n ≤ 5 → takeVector 0 ll lr ≡ faulty n 0 place
+      → OutcomeOf s ll lr rl rr labelRoom room (refused n 0 place)
+  right-3-to-5 : (q : Query) → takeQuery s ≡ query q → (l : Vector) → takeVector 0 ll lr ≡ vector l → (n place : ℕ) → 3 ≤ n → n ≤ 5
+      → takeVector 1 rl rr ≡ faulty n 1 place
       → OutcomeOf s ll lr rl rr labelRoom room (refused n 1 place)
   -- 01: Running: 6, the sides' p differ
-  number-6 : (q : Query) → takeQuery s ≡ query q → (l : Vector) → takeVector 0 ll lr ≡ vector l → (r : Vector) → takeVector 1 rl rr ≡ vector r → sameShape (l .shape) (r .shape) ≡ false
+  number-6 : (q : Query) → takeQuery s ≡ query q → (l : Vector) → takeVector 0 ll lr ≡ vector l → (r : Vector) → takeVector 1 rl rr ≡ vector r
+      → sameShape (l .shape) (r .shape) ≡ false
       → OutcomeOf s ll lr rl rr labelRoom room (refused 6 0 0)
   -- 01: 7 left or 8 right duplicate, the first in answer order
-  number-7-or-8 : (q : Query) (shape : Shape) (ls rs : List Series) → Taken s ll lr rl rr q shape ls rs → (x : Ranked Rank Duplicate) → verdict q ls rs ≡ duplicate x
+  number-7-or-8 : (q : Query) (shape : Shape) (ls rs : List Series) → Taken s ll lr rl rr q shape ls rs → (x : Ranked Rank Duplicate)
+      → verdict q ls rs ≡ duplicate x
       → OutcomeOf s ll lr rl rr labelRoom room (told x)
   -- 01: Then 9, the answer has over 512 series, 32 tags or 65,535 label bytes; then 10, it is longer than a lent output part
-  number-9 : (q : Query) (shape : Shape) (ls rs : List Series) → Taken s ll lr rl rr q shape ls rs → (l : List (Ranked Rank Series)) → verdict q ls rs ≡ answer l → overLimits (seriesIn l) ≡ true
+  number-9 : (q : Query) (shape : Shape) (ls rs : List Series) → Taken s ll lr rl rr q shape ls rs → (l : List (Ranked Rank Series))
+      → verdict q ls rs ≡ answer l → overLimits (seriesIn l) ≡ true
       → OutcomeOf s ll lr rl rr labelRoom room (refused 9 0 0)
-  number-10 : (q : Query) (shape : Shape) (ls rs : List Series) → Taken s ll lr rl rr q shape ls rs → (l : List (Ranked Rank Series)) → verdict q ls rs ≡ answer l → overLimits (seriesIn l) ≡ false
+  number-10 : (q : Query) (shape : Shape) (ls rs : List Series) → Taken s ll lr rl rr q shape ls rs → (l : List (Ranked Rank Series))
+      → verdict q ls rs ≡ answer l → overLimits (seriesIn l) ≡ false
       → overRoom labelRoom room shape (seriesIn l) ≡ true → OutcomeOf s ll lr rl rr labelRoom room (refused 10 0 0)
-  vector-answered : (q : Query) (shape : Shape) (ls rs : List Series) → Taken s ll lr rl rr q shape ls rs → (l : List (Ranked Rank Series)) → verdict q ls rs ≡ answer l → overLimits (seriesIn l) ≡ false
+  vector-answered : (q : Query) (shape : Shape) (ls rs : List Series) → Taken s ll lr rl rr q shape ls rs → (l : List (Ranked Rank Series))
+      → verdict q ls rs ≡ answer l → overLimits (seriesIn l) ≡ false
       → overRoom labelRoom room shape (seriesIn l) ≡ false → OutcomeOf s ll lr rl rr labelRoom room (written shape (seriesIn l))
 
 -- every call has one of these outcomes, under its condition

@@ -42,16 +42,19 @@ instant i ss = gather (elementOf i) ss
 abbrev pub hasMatch : Query → List Element → Element → Bool
 hasMatch q rs e = not (isEmpty (keep (λ f. sameKey q (e .labels) (f .labels)) rs))
 
--- Prometheus: `vector1 and vector2` results in a vector consisting of the elements of vector1 for which there are elements in vector2 with exactly matching label sets.
+-- Prometheus: `vector1 and vector2` results in a vector consisting of the elements of vector1 for which there are elements in vector2 with
+-- exactly matching label sets.
 abbrev pub andOf : Query → List Element → List Element → List Element
 andOf q ls rs = keep (hasMatch q rs) ls
 
--- Prometheus: `vector1 unless vector2` results in a vector consisting of the elements of vector1 for which there are no elements in vector2 with exactly matching label sets.
+-- Prometheus: `vector1 unless vector2` results in a vector consisting of the elements of vector1 for which there are no elements in vector2
+-- with exactly matching label sets.
 abbrev pub unlessOf : Query → List Element → List Element → List Element
 unlessOf q ls rs = keep (λ e. not (hasMatch q rs e)) ls
 
 -- The call answers these series, unless they pass a limit or a lent part; and at each point their instant vector is the operator's on the sides', in order.
-pub record Reads (operator : List Element → List Element → List Element) (shape : Shape) (ls rs : List Series) (labelRoom room : ℕ) (outcome : Outcome) : Type 0 where
+pub record Reads (operator : List Element → List Element → List Element) (shape : Shape) (ls rs : List Series) (labelRoom room : ℕ)
+    (outcome : Outcome) : Type 0 where
   pub series : List Series
   pub answers : outcome ≡ fit labelRoom room shape series
   pub elements : (i : ℕ) → instant i series ≡ operator (instant i ls) (instant i rs)

@@ -15,7 +15,8 @@ pub record ValidAnswer (labelRoom room n p : ℕ) (x y : List ℕ) : Type 0 wher
   pub points : p ≡ v .shape .points
   pub labels : x ≡ labelBytes (v .series)
   pub readings : y ≡ readingsOf (v .series)
-  -- at most 512 series, 1,024 points, 65,535 label bytes, and each series well formed: at most 32 tags in order, fields of at most 255 bytes, rows of p readings
+  -- at most 512 series, 1,024 points, 65,535 label bytes, and each series well formed: at most 32 tags in order, fields of at most 255
+  -- bytes, rows of p readings
   pub valid : Valid v
   pub bytes : Bytes x
   pub words : Readings y

@@ -27,11 +27,13 @@ module _ (q : Query) where
 
   rights-left : (b : Series) (g : ℕ → ℕ) (ls : List Series) → rights b (numbered left g ls) ≡ []
   rights-left b g [] = refl
-  rights-left b g (l ∷ ls) = cases (sameKey q (b .labels) (l .labels)) (λ e. rw e (rights-left b (λ i. g (suc i)) ls)) (λ e. rw e (rights-left b (λ i. g (suc i)) ls))
+  rights-left b g (l ∷ ls) = cases (sameKey q (b .labels) (l .labels)) (λ e. rw e (rights-left b (λ i. g (suc i)) ls))
+      (λ e. rw e (rights-left b (λ i. g (suc i)) ls))
 
   rights-right : (b : Series) (g : ℕ → ℕ) (rs : List Series) → rights b (numbered right g rs) ≡ sameKeyOf q b rs
   rights-right b g [] = refl
-  rights-right b g (r ∷ rs) = cases (sameKey q (b .labels) (r .labels)) (λ e. rw (e, rights-right b (λ i. g (suc i)) rs)) (λ e. rw e (rights-right b (λ i. g (suc i)) rs))
+  rights-right b g (r ∷ rs) = cases (sameKey q (b .labels) (r .labels)) (λ e. rw (e, rights-right b (λ i. g (suc i)) rs))
+      (λ e. rw e (rights-right b (λ i. g (suc i)) rs))
 
   rights-append : (b : Series) (xs ys : List Placed) → rights b (xs ++ ys) ≡ rights b xs ++ rights b ys
   rights-append b xs ys = simp (keep-append, map-append)
@@ -51,7 +53,9 @@ module _ (q : Query) where
       sym (rights-placed (x .series) (pile deal left ls) (pile deal right rs))
       ∙ sym (rights-moved (x .series) (wholePlaces deal ls rs) (pilePlaced deal ls rs))
       ∙ sym (ap (rights (x .series)) (pile-whole deal ls rs))
-      ∙ ap (λ l. seriesOf (ofSide right l)) (keep-keep (λ s. sameKey q (x .series .labels) (s .series .labels)) (λ s. deal (s .place)) (placed ls rs) (All-map (λ y g r. g r ∙ e) (placed ls rs) h))
+      ∙ ap (λ l. seriesOf (ofSide right l))
+      (keep-keep (λ s. sameKey q (x .series .labels) (s .series .labels)) (λ s. deal (s .place)) (placed ls rs)
+      (All-map (λ y g r. g r ∙ e) (placed ls rs) h))
       ∙ rights-placed (x .series) ls rs)
       (placed ls rs) a
 
@@ -63,7 +67,8 @@ All-picked P deal s g (b ∷ bs) a =
     (λ e. rw e (a .0 e, All-picked P deal s (λ i. g (suc i)) bs (a .1)))
     (λ e. rw e (All-picked P deal s (λ i. g (suc i)) bs (a .1)))
 
-pub All-numbered : (P : Series → Type 0) (Q : Placed → Type 0) (s : Side) → ((n : ℕ) (b : Series) → P b → Q (record { place = record { side = s; number = n }; series = b }))
+pub All-numbered : (P : Series → Type 0) (Q : Placed → Type 0) (s : Side)
+    → ((n : ℕ) (b : Series) → P b → Q (record { place = record { side = s; number = n }; series = b }))
     → (g : ℕ → ℕ) (bs : List Series) → All P bs → All Q (numbered s g bs)
 All-numbered P Q s h g [] a = tt
 All-numbered P Q s h g (b ∷ bs) a = (h (g zero) b (a .0), All-numbered P Q s h (λ i. g (suc i)) bs (a .1))
@@ -113,7 +118,8 @@ module _ (q : Query) (k : SetRule) (deal : Deal) (ls rs : List Series) (apart : 
   pr = pile deal right rs
 
   abbrev SameEmission : Seen → Placed → Type 0
-  SameEmission c s = emission q (ruleOf q (fallback k) c) (pilePlaced deal ls rs) s ≡ emission q (ruleOf q (fallback k) (look (fallback k) ls rs)) (pilePlaced deal ls rs) s
+  SameEmission c s = emission q (ruleOf q (fallback k) c) (pilePlaced deal ls rs) s
+      ≡ emission q (ruleOf q (fallback k) (look (fallback k) ls rs)) (pilePlaced deal ls rs) s
 
   keys : All (λ b. sameKeyOf q b pr ≡ sameKeyOf q b rs) pl
   keys = All-picked _ deal left (λ i. i) ls (All-front _ (numbered left (λ i. i) ls) _ (key-whole q deal ls rs apart))
@@ -129,18 +135,22 @@ module _ (q : Query) (k : SetRule) (deal : Deal) (ls rs : List Series) (apart : 
       All-numbered (λ b. (fallsBack q pr b ≡ fallsBack q rs b) × (sameKeyOf q b pr ≡ sameKeyOf q b rs)) _ left
       (λ n b h.
       ap (λ l. producedBy (record { side = left; number = n }) (mark (record { side = left; number = n }) l))
-      (left-same (unmatched k (scalarSide pr)) (unmatched k (scalarSide rs)) (met k) b (ofSide right (ofKey q (b .labels) (pilePlaced deal ls rs))) (unmatched-same b (h .0) (h .1))))
+      (left-same (unmatched k (scalarSide pr)) (unmatched k (scalarSide rs)) (met k) b (ofSide right (ofKey q (b .labels) (pilePlaced deal ls rs)))
+      (unmatched-same b (h .0) (h .1))))
       (λ i. i) pl (All-zip (λ b x y. (x, y)) pl (alike .falls) keys)
 
   rights-same : All (SameEmission (look (fallback k) pl pr)) (numbered right (λ i. i) pr)
   rights-same =
       if-any _ right (λ i. i) pr
       (λ e n b.
-      ap (λ t. producedBy (record { side = right; number = n }) (mark (record { side = right; number = n }) (cond t (rightResult b (ofSide left (ofKey q (b .labels) (pilePlaced deal ls rs)))) [])))
+      ap (λ t. producedBy (record { side = right; number = n })
+      (mark (record { side = right; number = n }) (cond t (rightResult b (ofSide left (ofKey q (b .labels) (pilePlaced deal ls rs)))) [])))
       (adds-same k (isEmpty pl) (isEmpty ls) (λ f. empty-picked (λ i. deal (record { side = left; number = i })) ls (alike .holds f e))))
 
-  pub falls-same : run q (ruleOf q (fallback k) (look (fallback k) pl pr)) (pilePlaced deal ls rs) ≡ run q (ruleOf q (fallback k) (look (fallback k) ls rs)) (pilePlaced deal ls rs)
+  pub falls-same : run q (ruleOf q (fallback k) (look (fallback k) pl pr)) (pilePlaced deal ls rs)
+      ≡ run q (ruleOf q (fallback k) (look (fallback k) ls rs)) (pilePlaced deal ls rs)
   falls-same =
       ap settle
-      (gather-cong (emission q (ruleOf q (fallback k) (look (fallback k) pl pr)) (pilePlaced deal ls rs)) (emission q (ruleOf q (fallback k) (look (fallback k) ls rs)) (pilePlaced deal ls rs)) (pilePlaced deal ls rs)
+      (gather-cong (emission q (ruleOf q (fallback k) (look (fallback k) pl pr)) (pilePlaced deal ls rs))
+      (emission q (ruleOf q (fallback k) (look (fallback k) ls rs)) (pilePlaced deal ls rs)) (pilePlaced deal ls rs)
       (All-append _ (numbered left (λ i. i) pl) (numbered right (λ i. i) pr) lefts-same rights-same))

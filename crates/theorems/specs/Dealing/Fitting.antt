@@ -43,7 +43,8 @@ pub data Way (a b : ℕ) (shape : Shape) (ss : List Series) (o : Outcome) : Type
   no-room : o ≡ refused 10 0 0 → Way a b shape ss o
 
 fit-cases : (a b : ℕ) (shape : Shape) (ss : List Series) (s t u v w : Bool)
-    → ltb maxSeries (length ss) ≡ s → overTags ss ≡ t → ltb maxLabelBytes (length (labelBytes ss)) ≡ u → ltb a (length (labelBytes ss)) ≡ v → ltb b (length ss * shape .points) ≡ w
+    → ltb maxSeries (length ss) ≡ s → overTags ss ≡ t → ltb maxLabelBytes (length (labelBytes ss)) ≡ u → ltb a (length (labelBytes ss)) ≡ v
+    → ltb b (length ss * shape .points) ≡ w
     → Way a b shape ss (cond (s || (t || u)) (refused 9 0 0) (cond (v || w) (refused 10 0 0) (written shape ss)))
 fit-cases a b shape ss true t u v w e f g h i = too-big refl
 fit-cases a b shape ss false true u v w e f g h i = too-big refl
@@ -103,11 +104,13 @@ tags-total (e ∷ l) = go (ltb maxTags (length (e .what .labels .tags))) (overTa
 pub length-weave : (l m : List (Ranked Rank Series)) → length (seriesIn (weave rankBefore l m)) ≡ length (seriesIn l) + length (seriesIn m)
 length-weave l m = rw (length-total l, length-total m, length-total (weave rankBefore l m)) (total-weave unit l m)
 
-pub bytes-weave : (l m : List (Ranked Rank Series)) → length (labelBytes (seriesIn (weave rankBefore l m))) ≡ length (labelBytes (seriesIn l)) + length (labelBytes (seriesIn m))
+pub bytes-weave : (l m : List (Ranked Rank Series)) → length (labelBytes (seriesIn (weave rankBefore l m)))
+    ≡ length (labelBytes (seriesIn l)) + length (labelBytes (seriesIn m))
 bytes-weave l m = rw (bytes-total l, bytes-total m, bytes-total (weave rankBefore l m)) (total-weave bytes-of l m)
 
 -- a part of what fits
-within : (a b : ℕ) (shape : Shape) (part ss : List Series) → length part ≤ length ss → length (labelBytes part) ≤ length (labelBytes ss) → overTags part ≡ false → Fits a b shape ss → Fits a b shape part
+within : (a b : ℕ) (shape : Shape) (part ss : List Series) → length part ≤ length ss → length (labelBytes part) ≤ length (labelBytes ss)
+    → overTags part ≡ false → Fits a b shape ss → Fits a b shape part
 within a b shape part ss n s t h =
     record {
       few = omega (arith, h .few);
@@ -117,13 +120,15 @@ within a b shape part ss n s t h =
       rows = le-trans (mul-le-mul-right (shape .points) n) (h .rows);
     }
 
-no-tags : (l m : List (Ranked Rank Series)) → overTags (seriesIn (weave rankBefore l m)) ≡ false → (overTags (seriesIn l) ≡ false) × (overTags (seriesIn m) ≡ false)
+no-tags : (l m : List (Ranked Rank Series)) → overTags (seriesIn (weave rankBefore l m)) ≡ false
+    → (overTags (seriesIn l) ≡ false) × (overTags (seriesIn m) ≡ false)
 no-tags l m h =
     let z : total wide (weave rankBefore l m) ≤ 0 = ltb-false _ _ (sym (tags-total (weave rankBefore l m)) ∙ h) in
     let y = total-weave wide l m in
     (tags-total l ∙ le-ltb 0 (total wide l) (omega (arith, y)), tags-total m ∙ le-ltb 0 (total wide m) (omega (arith, y)))
 
-pub fits-weave : (a b : ℕ) (shape : Shape) (l m : List (Ranked Rank Series)) → Fits a b shape (seriesIn (weave rankBefore l m)) → Fits a b shape (seriesIn l) × Fits a b shape (seriesIn m)
+pub fits-weave : (a b : ℕ) (shape : Shape) (l m : List (Ranked Rank Series)) → Fits a b shape (seriesIn (weave rankBefore l m))
+    → Fits a b shape (seriesIn l) × Fits a b shape (seriesIn m)
 fits-weave a b shape l m h =
     let t = no-tags l m (h .tags) in
     let n = length-weave l m in

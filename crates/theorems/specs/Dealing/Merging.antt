@@ -64,7 +64,8 @@ front-left : (r : Rank) (e : Event) (v w : Verdict) → EachRank (λ k. rankBefo
     → front r e (mergedVerdict v w) ≡ mergedVerdict (front r e v) w
 front-left r (bad d) v (answer m) a b = refl
 front-left r (bad d) v (duplicate y) a b = rw b
-front-left r (good s) (answer l) (answer m) a b = rw (insert-here rankBefore (record { rank = r; what = s }) (weave rankBefore l m) (All-weave rankBefore _ l m a b))
+front-left r (good s) (answer l) (answer m) a b = rw
+    (insert-here rankBefore (record { rank = r; what = s }) (weave rankBefore l m) (All-weave rankBefore _ l m a b))
 front-left r (good s) (answer l) (duplicate y) a b = refl
 front-left r (good s) (duplicate x) (answer m) a b = refl
 front-left r (good s) (duplicate x) (duplicate y) a b = refl
@@ -81,18 +82,22 @@ front-right r (good s) (duplicate x) (duplicate y) a = refl
 abbrev NotBefore : List (Ranked Rank Event) → Verdict → Type 0
 NotBefore l v = All (λ e. EachRank (λ k. rankBefore k (e .rank) ≡ false) v) l
 
-fronts-left : (l : List (Ranked Rank Event)) (v w : Verdict) → Rising rankBefore l → NotBefore l v → NotBefore l w → fronts l (mergedVerdict v w) ≡ mergedVerdict (fronts l v) w
+fronts-left : (l : List (Ranked Rank Event)) (v w : Verdict) → Rising rankBefore l → NotBefore l v → NotBefore l w
+    → fronts l (mergedVerdict v w) ≡ mergedVerdict (fronts l v) w
 fronts-left [] v w r a b = refl
 fronts-left (e ∷ l) v w r a b =
-    rw (fronts-left l v w (r .1) (a .1) (b .1)) (front-left (e .rank) (e .what) (fronts l v) w (each-fronts _ l v (All-map (λ b h. h .1) l (r .0)) (a .0)) (b .0))
+    rw (fronts-left l v w (r .1) (a .1) (b .1))
+    (front-left (e .rank) (e .what) (fronts l v) w (each-fronts _ l v (All-map (λ b h. h .1) l (r .0)) (a .0)) (b .0))
 
-fronts-right : (l : List (Ranked Rank Event)) (v w : Verdict) → All (λ e. EachRank (λ k. rankBefore (e .rank) k ≡ true) v) l → fronts l (mergedVerdict v w) ≡ mergedVerdict v (fronts l w)
+fronts-right : (l : List (Ranked Rank Event)) (v w : Verdict) → All (λ e. EachRank (λ k. rankBefore (e .rank) k ≡ true) v) l
+    → fronts l (mergedVerdict v w) ≡ mergedVerdict v (fronts l w)
 fronts-right [] v w a = refl
 fronts-right (e ∷ l) v w a = rw (fronts-right l v w (a .1)) (front-right (e .rank) (e .what) v (fronts l w) (a .0))
 
 module _ {A : Type 0} (g : A → List (Ranked Rank Event)) where
   -- the later ones' events rank behind the first one's, all at once
-  flip : (l : List (Ranked Rank Event)) (xs : List A) → All (λ y. All (λ e. All (Behind rankBefore e) (g y)) l) xs → All (λ e. All (Behind rankBefore e) (gather g xs)) l
+  flip : (l : List (Ranked Rank Event)) (xs : List A) → All (λ y. All (λ e. All (Behind rankBefore e) (g y)) l) xs
+      → All (λ e. All (Behind rankBefore e) (gather g xs)) l
   flip [] xs a = tt
   flip (e ∷ l) xs a = (All-gather _ g xs (All-map (λ y h. h .0) xs a), flip l xs (All-map (λ y h. h .1) xs a))
 
@@ -132,7 +137,8 @@ front-rising r (bad d) v h a = tt
 front-rising r (good s) (answer l) h a = (h, a)
 front-rising r (good s) (duplicate x) h a = tt
 
-fronts-rising : (l : List (Ranked Rank Event)) (v : Verdict) → Rising rankBefore l → All (λ e. AllBehind (e .rank) v) l → RisingAnswer v → RisingAnswer (fronts l v)
+fronts-rising : (l : List (Ranked Rank Event)) (v : Verdict) → Rising rankBefore l → All (λ e. AllBehind (e .rank) v) l → RisingAnswer v
+    → RisingAnswer (fronts l v)
 fronts-rising [] v r h a = a
 fronts-rising (e ∷ l) v r h a = front-rising (e .rank) (e .what) (fronts l v) (each-fronts _ l v (r .0) (h .0)) (fronts-rising l v (r .1) (h .1) a)
 

@@ -14,7 +14,8 @@ use Rattle.semantics.specs.Places.{Placed, numbered, placed, alongside}
 use Rattle.semantics.specs.Events.{Rule, emission, events, run}
 use Rattle.theorems.specs.Laws.Order.{Steady, Ascending, placed-ascending, events-orderly}
 use Rattle.theorems.specs.Laws.Renumber.{movedSeries, Exact, Natural, run-moved}
-use Rattle.theorems.specs.Claims.Dealing.{Renumber, movedVerdict, Deal, secondPile, pick, pile, nextNumber, wholeNumber, wholePlaces, Apart, mergedVerdict, WholeNumbers}
+use Rattle.theorems.specs.Claims.Dealing.{Renumber, movedVerdict, Deal, secondPile, pick, pile, nextNumber, wholeNumber, wholePlaces, Apart}
+use Rattle.theorems.specs.Claims.Dealing.{mergedVerdict, WholeNumbers}
 use Rattle.theorems.specs.Dealing.Merging.{settled}
 
 next-exact : (g : ℕ → ℕ) → ((i j : ℕ) → eqb (g i) (g j) ≡ eqb i j) → (i j : ℕ) → eqb (nextNumber i g) (nextNumber j g) ≡ eqb i j
@@ -34,14 +35,17 @@ number-exact d (b ∷ bs) i j =
 abbrev NumberIs : (ℕ → Bool) → Series → List Series → ℕ → Series → Bool → Type 0
 NumberIs d b bs i x t =
     i < length (cond t (b ∷ pick (λ k. d (suc k)) bs) (pick (λ k. d (suc k)) bs))
-    → (getD (cond t (b ∷ pick (λ k. d (suc k)) bs) (pick (λ k. d (suc k)) bs)) i x ≡ getD (b ∷ bs) (cond t (nextNumber i (wholeNumber (λ k. d (suc k)) bs)) (suc (wholeNumber (λ k. d (suc k)) bs i))) x)
+    → (getD (cond t (b ∷ pick (λ k. d (suc k)) bs) (pick (λ k. d (suc k)) bs)) i x
+    ≡ getD (b ∷ bs) (cond t (nextNumber i (wholeNumber (λ k. d (suc k)) bs)) (suc (wholeNumber (λ k. d (suc k)) bs i))) x)
     × (d (cond t (nextNumber i (wholeNumber (λ k. d (suc k)) bs)) (suc (wholeNumber (λ k. d (suc k)) bs i))) ≡ true)
 
 pub whole-numbers : WholeNumbers
 whole-numbers d [] i x h = absurd (omega (arith, h))
 whole-numbers d (b ∷ bs) i x h = go (λ j. whole-numbers (λ k. d (suc k)) bs j x) (d zero) refl i h
   where
-    go : ((j : ℕ) → j < length (pick (λ k. d (suc k)) bs) → (getD (pick (λ k. d (suc k)) bs) j x ≡ getD bs (wholeNumber (λ k. d (suc k)) bs j) x) × (d (suc (wholeNumber (λ k. d (suc k)) bs j)) ≡ true))
+    go : ((j : ℕ) → j < length (pick (λ k. d (suc k)) bs)
+        → (getD (pick (λ k. d (suc k)) bs) j x ≡ getD bs (wholeNumber (λ k. d (suc k)) bs j) x) ×
+        (d (suc (wholeNumber (λ k. d (suc k)) bs j)) ≡ true))
         → (t : Bool) → d zero ≡ t → (i : ℕ) → NumberIs d b bs i x t
     go ih true e zero h = (refl, e)
     go ih true e (suc i) h = ih i (omega (arith, h))
@@ -73,7 +77,8 @@ keep-numbered deal s g (b ∷ bs) =
 abbrev pub pilePlaced : Deal → List Series → List Series → List Placed
 pilePlaced deal ls rs = placed (pile deal left ls) (pile deal right rs)
 
-pub pile-whole : (deal : Deal) (ls rs : List Series) → keep (λ x. deal (x .place)) (placed ls rs) ≡ map (movedSeries (wholePlaces deal ls rs)) (pilePlaced deal ls rs)
+pub pile-whole : (deal : Deal) (ls rs : List Series) → keep (λ x. deal (x .place)) (placed ls rs)
+    ≡ map (movedSeries (wholePlaces deal ls rs)) (pilePlaced deal ls rs)
 pile-whole deal ls rs = simp (keep-append, keep-numbered deal, map-append, numbered-moved)
 
 pub apart-second : (q : Query) (deal : Deal) (xs : List Placed) → Apart q deal xs → Apart q (secondPile deal) xs
@@ -81,20 +86,24 @@ apart-second q deal xs a = All-map (λ x h. All-map (λ y g e. ap not (g e)) xs 
 
 module _ (q : Query) (f : Rule) where
   -- a pile's series see the series of their key in the pile as in the whole
-  pile-events : (deal : Deal) (xs : List Placed) → Apart q deal xs → events q f (keep (λ x. deal (x .place)) xs) ≡ gather (emission q f xs) (keep (λ x. deal (x .place)) xs)
+  pile-events : (deal : Deal) (xs : List Placed) → Apart q deal xs
+      → events q f (keep (λ x. deal (x .place)) xs) ≡ gather (emission q f xs) (keep (λ x. deal (x .place)) xs)
   pile-events deal xs a =
       gather-keep-cong _ _ (λ x. deal (x .place)) xs
-      (All-map (λ x h e. rw (keep-keep (λ s. sameKey q (x .series .labels) (s .series .labels)) (λ s. deal (s .place)) xs (All-map (λ y g r. g r ∙ e) xs h))) xs a)
+      (All-map (λ x h e. rw
+      (keep-keep (λ s. sameKey q (x .series .labels) (s .series .labels)) (λ s. deal (s .place)) xs (All-map (λ y g r. g r ∙ e) xs h))) xs a)
 
   dealt-run : Steady f → (deal : Deal) (xs : List Placed) → Ascending xs → Apart q deal xs
       → run q f xs ≡ mergedVerdict (run q f (keep (λ x. deal (x .place)) xs)) (run q f (keep (λ x. not (deal (x .place))) xs))
   dealt-run st deal xs up a =
-      rw (pile-events deal xs a, pile-events (secondPile deal) xs (apart-second q deal xs a)) (settled (emission q f xs) (λ x. deal (x .place)) xs (events-orderly q f st xs xs up up))
+      rw (pile-events deal xs a, pile-events (secondPile deal) xs (apart-second q deal xs a))
+      (settled (emission q f xs) (λ x. deal (x .place)) xs (events-orderly q f st xs xs up up))
 
   -- the whole verdict of a rule is the piles', in whole places, merged
   pub dealt-verdict : Natural f → Steady f → (deal : Deal) (ls rs : List Series) → Apart q deal (placed ls rs)
       → run q f (placed ls rs)
-      ≡ mergedVerdict (movedVerdict (wholePlaces deal ls rs) (run q f (pilePlaced deal ls rs))) (movedVerdict (wholePlaces (secondPile deal) ls rs) (run q f (pilePlaced (secondPile deal) ls rs)))
+      ≡ mergedVerdict (movedVerdict (wholePlaces deal ls rs) (run q f (pilePlaced deal ls rs)))
+      (movedVerdict (wholePlaces (secondPile deal) ls rs) (run q f (pilePlaced (secondPile deal) ls rs)))
   dealt-verdict natural steady deal ls rs a =
       rw (
         dealt-run steady deal (placed ls rs) (placed-ascending ls rs) a,

@@ -55,14 +55,16 @@ pileVerdict q deal ls rs = verdict q (pile deal left ls) (pile deal right rs)
 
 pub verdicts : (q : Query) (deal : Deal) (ls rs : List Series) → Dealt q deal ls rs
     → verdict q ls rs
-    ≡ mergedVerdict (movedVerdict (wholePlaces deal ls rs) (pileVerdict q deal ls rs)) (movedVerdict (wholePlaces (secondPile deal) ls rs) (pileVerdict q (secondPile deal) ls rs))
+    ≡ mergedVerdict (movedVerdict (wholePlaces deal ls rs) (pileVerdict q deal ls rs))
+    (movedVerdict (wholePlaces (secondPile deal) ls rs) (pileVerdict q (secondPile deal) ls rs))
 unfolding verdict
 verdicts q deal ls rs d =
     rw (
       rule-same q (kindOf (q .operator)) deal ls rs (d .apart) (d .first),
       rule-same q (kindOf (q .operator)) (secondPile deal) ls rs (apart-second q deal (placed ls rs) (d .apart)) (d .second),
     )
-    (dealt-verdict q (ruleOf q (kindOf (q .operator)) (look (kindOf (q .operator)) ls rs)) (rule-natural q (kindOf (q .operator)) _) (rule-steady q (kindOf (q .operator)) _) deal ls rs (d .apart))
+    (dealt-verdict q (ruleOf q (kindOf (q .operator)) (look (kindOf (q .operator)) ls rs)) (rule-natural q (kindOf (q .operator)) _)
+    (rule-steady q (kindOf (q .operator)) _) deal ls rs (d .apart))
 
 -- answers are in order of rank
 pub verdict-rising : (q : Query) (ls rs : List Series) (l : List (Ranked Rank Series)) → verdict q ls rs ≡ answer l → Rising rankBefore l

@@ -12,7 +12,8 @@ use Rattle.model.specs.Query.{Query, Side, left, right}
 use Rattle.model.specs.Vector.{Series}
 use Rattle.model.specs.Laws.Lists.{keep-append}
 use Rattle.semantics.specs.Places.{Place, Placed, placed, samePlace, before, earlier, alongside, Rank}
-use Rattle.semantics.specs.Events.{Duplicate, Event, good, bad, Ranked, Rule, Verdict, answer, duplicate, ofKey, producedBy, emission, events, front, settle, run}
+use Rattle.semantics.specs.Events.{Duplicate, Event, good, bad, Ranked, Rule, Verdict, answer, duplicate, ofKey, producedBy, emission, events, front}
+use Rattle.semantics.specs.Events.{settle, run}
 use Rattle.theorems.specs.Claims.Prometheus.{In, givenBy}
 use Rattle.theorems.specs.Laws.Order.{After, Ascending, placed-ascending}
 use Rattle.theorems.specs.Laws.Members.{all-in}
@@ -49,7 +50,11 @@ answered (x ∷ l) m e = go (answered l) (x .what) (settle l) refl e
     go ih (good b) (duplicate y) h e = not-answer y m e
     go ih (good b) (answer k) h e =
         let r = ih k h in
-        record { sound = (tt, r .sound); is = answer-is (record { rank = x .rank; what = b } ∷ k) m e ∙ ap (λ y. record { rank = x .rank; what = b } ∷ y) (r .is) }
+        record {
+          sound = (tt, r .sound);
+          is = answer-is (record { rank = x .rank; what = b } ∷ k) m e
+              ∙ ap (λ y. record { rank = x .rank; what = b } ∷ y) (r .is);
+        }
 
 in-with : {e : Ranked Rank Series} (r : Rank) (w : Event) (l : List (Ranked Rank Series)) → In e l → In e (withGood r w l)
 in-with r (good b) l h = List·Memᴰ·tail h
@@ -59,7 +64,8 @@ pub in-goods : (r : Rank) (b : Series) (l : List (Ranked Rank Event)) → In (re
 in-goods r b [] h = absurd (List·Memᴰ·not-nil h)
 in-goods r b (y ∷ l) h = go (in-goods r b l) (List·Memᴰ·cases-cons h)
   where
-    go : (In (record { rank = r; what = good b }) l → In (record { rank = r; what = b }) (goods l)) → (record { rank = r; what = good b } ≡ y) ⊎ In (record { rank = r; what = good b }) l
+    go : (In (record { rank = r; what = good b }) l → In (record { rank = r; what = b }) (goods l))
+        → (record { rank = r; what = good b } ≡ y) ⊎ In (record { rank = r; what = good b }) l
         → In (record { rank = r; what = b }) (withGood (y .rank) (y .what) (goods l))
     go ih (inl e) = rw (← e) (List·Memᴰ·head refl)
     go ih (inr m) = in-with (y .rank) (y .what) (goods l) (ih m)
@@ -86,7 +92,8 @@ given-same p [] = refl
 given-same p (e ∷ l) = go (given-same p l) (e .what)
   where
     go : givenBy p (goods (producedBy p l)) ≡ goods (producedBy p l) → (w : Event)
-        → givenBy p (withGood (record { producer = p; earliest = e .rank }) w (goods (producedBy p l))) ≡ withGood (record { producer = p; earliest = e .rank }) w (goods (producedBy p l))
+        → givenBy p (withGood (record { producer = p; earliest = e .rank }) w (goods (producedBy p l)))
+        ≡ withGood (record { producer = p; earliest = e .rank }) w (goods (producedBy p l))
     go ih (good b) = rw (same-place-refl p, ih)
     go ih (bad d) = ih
 
@@ -94,7 +101,8 @@ given-other : (p x : Place) (l : List (Ranked Place Event)) → samePlace x p �
 given-other p x [] h = refl
 given-other p x (e ∷ l) h = go (given-other p x l h) (e .what)
   where
-    go : givenBy p (goods (producedBy x l)) ≡ [] → (w : Event) → givenBy p (withGood (record { producer = x; earliest = e .rank }) w (goods (producedBy x l))) ≡ []
+    go : givenBy p (goods (producedBy x l)) ≡ [] → (w : Event)
+        → givenBy p (withGood (record { producer = x; earliest = e .rank }) w (goods (producedBy x l))) ≡ []
     go ih (good b) = rw (h, ih)
     go ih (bad d) = ih
 
@@ -118,7 +126,8 @@ module _ (g : Placed → List (Ranked Place Event)) where
   abbrev produced : List Placed → List (Ranked Rank Event)
   produced xs = gather (λ x. producedBy (x .place) (g x)) xs
 
-  given-split : (p : Place) (x : Placed) (xs : List Placed) → givenBy p (goods (produced (x ∷ xs))) ≡ givenBy p (goods (producedBy (x .place) (g x))) ++ givenBy p (goods (produced xs))
+  given-split : (p : Place) (x : Placed) (xs : List Placed)
+      → givenBy p (goods (produced (x ∷ xs))) ≡ givenBy p (goods (producedBy (x .place) (g x))) ++ givenBy p (goods (produced xs))
   given-split p x xs = rw (goods-append (producedBy (x .place) (g x)) (produced xs), keep-append)
 
   given-none : (p : Place) (xs : List Placed) → All (After p) xs → givenBy p (goods (produced xs)) ≡ []
@@ -131,7 +140,8 @@ module _ (g : Placed → List (Ranked Place Event)) where
     where
       go : (In s xs → givenBy (s .place) (goods (produced xs)) ≡ goods (producedBy (s .place) (g s))) → (s ≡ x) ⊎ In s xs
           → givenBy (s .place) (goods (produced (x ∷ xs))) ≡ goods (producedBy (s .place) (g s))
-      go ih (inl e) = rw e (given-split (x .place) x xs ∙ rw (given-same (x .place) (g x), given-none (x .place) xs (a .0)) (append-nil (goods (producedBy (x .place) (g x)))))
+      go ih (inl e) = rw e (given-split (x .place) x xs ∙ rw (given-same (x .place) (g x), given-none (x .place) xs (a .0))
+          (append-nil (goods (producedBy (x .place) (g x)))))
       go ih (inr m) =
           let b = all-in (After (x .place)) s xs (a .0) m in
           given-split (s .place) x xs ∙ rw (given-other (s .place) (x .place) (g x) (apart (x .place) (s .place) (b .0) .0)) (ih m)

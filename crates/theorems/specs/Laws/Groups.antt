@@ -37,7 +37,8 @@ absorbed-labelled n k (x ∷ xs) b = into (absorbed-labelled n k xs) (merged n (
     into : ((c : Series) → Labelled c (absorbed n k c xs)) → (o : Option (List ℕ))
         → Labelled b (onMerged (withRow b o) (clash (record { kept = k .place; failed = x .place })) (λ c. absorbed n k c xs))
     into ih none = tt
-    into ih (some r) = labelled-as b (record { labels = b .labels; row = r }) (absorbed n k (record { labels = b .labels; row = r }) xs) refl (ih (record { labels = b .labels; row = r }))
+    into ih (some r) = labelled-as b (record { labels = b .labels; row = r }) (absorbed n k (record { labels = b .labels; row = r }) xs) refl
+        (ih (record { labels = b .labels; row = r }))
 
 -- an event of a group: an answer series with these labels, or a duplicate
 pub data EventOf (work : Series → Series) (b : Series) : Event → Type 0 where

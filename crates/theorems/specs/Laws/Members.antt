@@ -67,7 +67,15 @@ first-kept p x (y ∷ ys) h t = cases (p y) now (later (λ m. first-kept p x ys 
     go ih e (inr m) = ih m
 
     later : (In x ys → First p ys) → p y ≡ false → First p (y ∷ ys)
-    later ih e = let r = go ih e (List·Memᴰ·cases-cons h) in record { first = r .first; rest = r .rest; is = rw e (r .is); member = List·Memᴰ·tail (r .member); passes = r .passes }
+    later ih e = let r = go ih e
+        (List·Memᴰ·cases-cons h) in record {
+          first = r .first;
+          rest = r .rest;
+          is = rw e (r .is);
+          member = List·Memᴰ·tail
+              (r .member);
+          passes = r .passes;
+        }
 
 pub all-in : {A : Type 0} (P : A → Type 0) (x : A) (xs : List A) → All P xs → In x xs → P x
 all-in P x [] a h = absurd (List·Memᴰ·not-nil h)

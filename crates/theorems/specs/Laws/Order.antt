@@ -14,7 +14,9 @@ use Rattle.theorems.specs.Claims.Dealing.{Behind, Rising}
 use Rattle.semantics.specs.Places.{Place, Placed, numbered, placed, earlier, before, rankBefore}
 use Rattle.semantics.specs.Events.{Ranked, Event, mark, Rule, ofKey, producedBy, emission}
 use Rattle.semantics.specs.Rules as Rules
-use Rattle.semantics.specs.Rules.{Plain, plain, onSide, other, ofSide, isFirst, Merged, nothing, one, clash, mergedIntoLast, mergedIntoEarliest, both, pairs, alikeTo, worked, groupOf, groups, joined, optional, leftResult, rightResult, setRuleOf, hasReadings, dropping}
+use Rattle.semantics.specs.Rules.{Plain, plain, onSide, other, ofSide, isFirst, Merged, nothing, one, clash, mergedIntoLast, mergedIntoEarliest, both}
+use Rattle.semantics.specs.Rules.{pairs, alikeTo, worked, groupOf, groups, joined, optional, leftResult, rightResult, setRuleOf, hasReadings}
+use Rattle.semantics.specs.Rules.{dropping}
 use Rattle.model.specs.Laws.Lists.{All-map, All-each, All-append, All-on-map, All-keep, All-gather}
 
 ltb-irrefl : (n : ℕ) → ltb n n ≡ false
@@ -84,7 +86,8 @@ pub record Steady (f : Rule) : Type 0 where
 
 produced-rising : (p : Place) (l : List (Ranked Place Event)) → Rising before l → Rising rankBefore (producedBy p l)
 produced-rising p [] r = tt
-produced-rising p (e ∷ l) r = (All-on-map _ _ l (All-map (λ b h. (cc (before-irrefl p, h .0), cc (before-irrefl p, h .1))) l (r .0)), produced-rising p l (r .1))
+produced-rising p (e ∷ l) r =
+    (All-on-map _ _ l (All-map (λ b h. (cc (before-irrefl p, h .0), cc (before-irrefl p, h .1))) l (r .0)), produced-rising p l (r .1))
 
 produced-behind : (p q : Place) (l m : List (Ranked Place Event)) → before p q ≡ true → before q p ≡ false
     → All (λ e. All (Behind rankBefore e) (producedBy q m)) (producedBy p l)
@@ -93,7 +96,8 @@ produced-behind p q l m h k = All-on-map _ _ l (All-each (λ e. All-on-map _ _ m
 pub events-orderly : (q : Query) (f : Rule) → Steady f → (ys xs : List Placed) → Ascending ys → Ascending xs → Orderly rankBefore (emission q f ys) xs
 events-orderly q f st ys [] up a = tt
 events-orderly q f st ys (x ∷ xs) up a = (
-  produced-rising (x .place) (f x (ofKey q (x .series .labels) ys)) (st .rises x (ofKey q (x .series .labels) ys) (ascending-keep (λ s. sameKey q (x .series .labels) (s .series .labels)) ys up)),
+  produced-rising (x .place) (f x (ofKey q (x .series .labels) ys))
+      (st .rises x (ofKey q (x .series .labels) ys) (ascending-keep (λ s. sameKey q (x .series .labels) (s .series .labels)) ys up)),
   All-map (λ y h. produced-behind (x .place) (y .place) (f x (ofKey q (x .series .labels) ys)) (f y (ofKey q (y .series .labels) ys)) (h .0) (h .1)) xs (a .0),
   events-orderly q f st ys xs up (a .1),
 )
@@ -119,12 +123,14 @@ rising-append : {E : Type 0} (l m : List (Ranked Place E)) → Rising before l �
 rising-append [] m r t a = t
 rising-append (e ∷ l) m r t a = (All-append _ l m (r .0) (a .0), rising-append l m (r .1) t (a .1))
 
-rising-gather : {E : Type 0} (h : Placed → List E) → ((x : Placed) → AtMostOne (h x)) → (xs : List Placed) → Ascending xs → Rising before (gather (λ x. mark (x .place) (h x)) xs)
+rising-gather : {E : Type 0} (h : Placed → List E) → ((x : Placed) → AtMostOne (h x)) → (xs : List Placed) → Ascending xs
+    → Rising before (gather (λ x. mark (x .place) (h x)) xs)
 rising-gather h o [] a = tt
 rising-gather h o (x ∷ xs) a =
     rising-append (mark (x .place) (h x)) (gather (λ y. mark (y .place) (h y)) xs) (rising-mark (x .place) (h x) (o x)) (rising-gather h o xs (a .1))
     (All-mark (λ p. All (λ b. (before p (b .rank) ≡ true) × (before (b .rank) p ≡ false)) (gather (λ y. mark (y .place) (h y)) xs)) (x .place) (h x)
-    (All-gather _ (λ y. mark (y .place) (h y)) xs (All-map (λ y k. All-mark (λ q. (before (x .place) q ≡ true) × (before q (x .place) ≡ false)) (y .place) (h y) k) xs (a .0))))
+    (All-gather _ (λ y. mark (y .place) (h y)) xs
+    (All-map (λ y k. All-mark (λ q. (before (x .place) q ≡ true) × (before q (x .place) ≡ false)) (y .place) (h y) k) xs (a .0))))
 
 rising-cond : {E : Type 0} (t : Bool) (l : List (Ranked Place E)) → Rising before l → Rising before (cond t l [])
 rising-cond true l r = r
@@ -155,7 +161,8 @@ optional-one : (o : Option Series) → AtMostOne (optional o)
 optional-one none = tt
 optional-one (some b) = tt
 
-left-one : (alone : Series → Option Series) (meet : Series → List Placed → Option Series) (b : Series) (rs : List Placed) → AtMostOne (leftResult alone meet b rs)
+left-one : (alone : Series → Option Series) (meet : Series → List Placed → Option Series) (b : Series) (rs : List Placed)
+    → AtMostOne (leftResult alone meet b rs)
 left-one alone meet b [] = optional-one (alone b)
 left-one alone meet b (r ∷ rs) = optional-one (meet b (r ∷ rs))
 
@@ -166,17 +173,22 @@ right-one b (l ∷ ls) = tt
 pub one-to-one-steady : (allowance : ℕ) (work : Series → Series → Series) → Steady (plain (Rules.oneToOne allowance work))
 one-to-one-steady allowance work =
     plain-steady (Rules.oneToOne allowance work)
-    (λ s xs. cond-one (isFirst s (ofSide left xs)) _ [] (both-one work (mergedIntoLast allowance (ofSide left xs)) (mergedIntoLast allowance (ofSide right xs))) tt)
+    (λ s xs. cond-one (isFirst s (ofSide left xs)) _ []
+    (both-one work (mergedIntoLast allowance (ofSide left xs)) (mergedIntoLast allowance (ofSide right xs))) tt)
 
 pub set-rule-steady : (adds : Bool) (alone : Series → Option Series) (meet : Series → List Placed → Option Series) → Steady (plain (setRuleOf adds alone meet))
 set-rule-steady adds alone meet =
     plain-steady (setRuleOf adds alone meet)
     (λ s xs.
-    cond-one (onSide left (s .place .side)) _ _ (left-one alone meet (s .series) (ofSide right xs)) (cond-one adds _ [] (right-one (s .series) (ofSide left xs)) tt))
+    cond-one (onSide left (s .place .side)) _ _ (left-one alone meet (s .series) (ofSide right xs))
+    (cond-one adds _ [] (right-one (s .series) (ofSide left xs)) tt))
 
 pub dropping-steady : {f : Rule} → Steady f → Steady (dropping f)
 dropping-steady {f} steady =
-    record { rises = λ s xs a. rising-cond (hasReadings (s .series)) (f s (keep (λ x. hasReadings (x .series)) xs)) (steady .rises s (keep (λ x. hasReadings (x .series)) xs) (ascending-keep (λ x. hasReadings (x .series)) xs a)) }
+    record {
+      rises = λ s xs a. rising-cond (hasReadings (s .series)) (f s (keep (λ x. hasReadings (x .series)) xs))
+          (steady .rises s (keep (λ x. hasReadings (x .series)) xs) (ascending-keep (λ x. hasReadings (x .series)) xs a));
+    }
 
 pairs-ascending : (edit : Series → Series → Series) (b : Series) (xs : List Placed) → Ascending xs → Ascending (pairs edit b xs)
 pairs-ascending edit b [] a = tt

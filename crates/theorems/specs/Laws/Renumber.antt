@@ -15,7 +15,9 @@ use Rattle.theorems.specs.Claims.Dealing.{Renumber, movedPlace, movedDup
 use Rattle.semantics.specs.Places.{Place, Placed, samePlace, Rank}
 use Rattle.semantics.specs.Events.{Event, good, bad, Ranked, mark, Rule, ofKey, emission, events, Verdict, answer, duplicate, front, settle, run}
 use Rattle.semantics.specs.Rules as Rules
-use Rattle.semantics.specs.Rules.{Plain, plain, onSide, other, ofSide, isFirst, Merged, nothing, one, clash, onMerged, absorbed, lastOf, earlierOnes, mergedIntoLast, mergedIntoEarliest, both, pairs, worked, groupOf, groups, joined, optional, leftResult, rightResult, setRuleOf, hasReadings, dropping}
+use Rattle.semantics.specs.Rules.{Plain, plain, onSide, other, ofSide, isFirst, Merged, nothing, one, clash, onMerged, absorbed, lastOf, earlierOnes}
+use Rattle.semantics.specs.Rules.{mergedIntoLast, mergedIntoEarliest, both, pairs, worked, groupOf, groups, joined, optional, leftResult, rightResult}
+use Rattle.semantics.specs.Rules.{setRuleOf, hasReadings, dropping}
 use Rattle.semantics.specs.Binop.{Found, firstReading, isFound, someReading, filledFrom, setReading, pointwise, met}
 
 abbrev pub movedSeries : Renumber → Placed → Placed
@@ -56,7 +58,8 @@ module _ (q : Query) (f : Rule) (natural : Natural f) (ρ : Renumber) (exact : E
 
 -- each rule is natural
 
-mark-moved : {E : Type 0} (ρ : Renumber) (h : E → E) (p : Place) (es : List E) → mark (movedPlace ρ p) (map h es) ≡ map (movedRanked (movedPlace ρ) h) (mark p es)
+mark-moved : {E : Type 0} (ρ : Renumber) (h : E → E) (p : Place) (es : List E)
+    → mark (movedPlace ρ p) (map h es) ≡ map (movedRanked (movedPlace ρ) h) (mark p es)
 mark-moved ρ h p [] = refl
 mark-moved ρ h p (e ∷ es) = rw (mark-moved ρ h p es)
 
@@ -81,12 +84,14 @@ module _ (ρ : Renumber) where
   side-moved : (s : Side) (xs : List Placed) → ofSide s (map (movedSeries ρ) xs) ≡ map (movedSeries ρ) (ofSide s xs)
   side-moved s xs = keep-map _ _ xs
 
-  on-merged-moved : (o : Option Series) (z : Merged) (h : Series → Merged) → merged-moved (onMerged o z h) ≡ onMerged o (merged-moved z) (λ b. merged-moved (h b))
+  on-merged-moved : (o : Option Series) (z : Merged) (h : Series → Merged)
+      → merged-moved (onMerged o z h) ≡ onMerged o (merged-moved z) (λ b. merged-moved (h b))
   on-merged-moved none z h = refl
   on-merged-moved (some b) z h = refl
 
   module _ (allowance : ℕ) where
-    absorbed-moved : (k : Placed) (xs : List Placed) (b : Series) → absorbed allowance (movedSeries ρ k) b (map (movedSeries ρ) xs) ≡ merged-moved (absorbed allowance k b xs)
+    absorbed-moved : (k : Placed) (xs : List Placed) (b : Series)
+        → absorbed allowance (movedSeries ρ k) b (map (movedSeries ρ) xs) ≡ merged-moved (absorbed allowance k b xs)
     unfolding merged-moved
     absorbed-moved k [] b = refl
     absorbed-moved k (x ∷ xs) b = simp (on-merged-moved, absorbed-moved k xs)
@@ -126,29 +131,36 @@ module _ (ρ : Renumber) where
         → Rules.oneToOne allowance work (movedSeries ρ s) (map (movedSeries ρ) xs) ≡ map (movedEvent ρ) (Rules.oneToOne allowance work s xs)
     one-to-one-moved allowance work s xs = simp (side-moved, first-moved, into-last-moved allowance, both-moved work, map-cond)
 
-    pairs-moved : (edit : Series → Series → Series) (b : Series) (xs : List Placed) → pairs edit b (map (movedSeries ρ) xs) ≡ map (movedSeries ρ) (pairs edit b xs)
+    pairs-moved : (edit : Series → Series → Series) (b : Series) (xs : List Placed)
+        → pairs edit b (map (movedSeries ρ) xs) ≡ map (movedSeries ρ) (pairs edit b xs)
     pairs-moved edit b xs = simp map-map
 
     module _ (allowance : ℕ) (work : Series → Series) where
       group-moved : (cs : List Placed) (c : Placed)
-          → mark (movedPlace ρ (c .place)) (groupOf allowance work (map (movedSeries ρ) cs) (movedSeries ρ c)) ≡ map (movedRanked (movedPlace ρ) (movedEvent ρ)) (mark (c .place) (groupOf allowance work cs c))
-      group-moved cs c = rw (← (mark-moved ρ (movedEvent ρ) (c .place) (groupOf allowance work cs c))) (simp (keep-map, first-moved, into-earliest-moved allowance, worked-moved, map-cond))
+          → mark (movedPlace ρ (c .place)) (groupOf allowance work (map (movedSeries ρ) cs) (movedSeries ρ c))
+          ≡ map (movedRanked (movedPlace ρ) (movedEvent ρ)) (mark (c .place) (groupOf allowance work cs c))
+      group-moved cs c = rw (← (mark-moved ρ (movedEvent ρ) (c .place) (groupOf allowance work cs c)))
+          (simp (keep-map, first-moved, into-earliest-moved allowance, worked-moved, map-cond))
 
-      groups-moved : (cs : List Placed) → groups allowance work (map (movedSeries ρ) cs) ≡ map (movedRanked (movedPlace ρ) (movedEvent ρ)) (groups allowance work cs)
+      groups-moved : (cs : List Placed) → groups allowance work (map (movedSeries ρ) cs)
+          ≡ map (movedRanked (movedPlace ρ) (movedEvent ρ)) (groups allowance work cs)
       unfolding groups
       groups-moved cs = rw (gather-map, map-gather) (gather-each (group-moved cs) cs)
 
     joined-moved : (allowance : ℕ) (edit work : Series → Series → Series) (many : Side) (s : Placed) (xs : List Placed)
-        → joined allowance edit work many (movedSeries ρ s) (map (movedSeries ρ) xs) ≡ map (movedRanked (movedPlace ρ) (movedEvent ρ)) (joined allowance edit work many s xs)
+        → joined allowance edit work many (movedSeries ρ s) (map (movedSeries ρ) xs)
+        ≡ map (movedRanked (movedPlace ρ) (movedEvent ρ)) (joined allowance edit work many s xs)
     joined-moved allowance edit work many s xs =
-        let e = ap (groups allowance (work (s .series))) (pairs-moved edit (s .series) (ofSide (other many) xs)) ∙ groups-moved allowance (work (s .series)) (pairs edit (s .series) (ofSide (other many) xs)) in
+        let e = ap (groups allowance (work (s .series))) (pairs-moved edit (s .series) (ofSide (other many) xs))
+        ∙ groups-moved allowance (work (s .series)) (pairs edit (s .series) (ofSide (other many) xs)) in
         rw (side-moved (other many) xs, map-cond) (ap (λ l. cond (onSide many (s .place .side)) l []) e)
 
   optional-moved : (o : Option Series) → map (movedEvent ρ) (optional o) ≡ optional o
   optional-moved none = refl
   optional-moved (some b) = refl
 
-  module _ (alone : Series → Option Series) (meet : Series → List Placed → Option Series) (still : (b : Series) (rs : List Placed) → meet b (map (movedSeries ρ) rs) ≡ meet b rs) where
+  module _ (alone : Series → Option Series) (meet : Series → List Placed → Option Series)
+      (still : (b : Series) (rs : List Placed) → meet b (map (movedSeries ρ) rs) ≡ meet b rs) where
     left-moved : (b : Series) (rs : List Placed) → leftResult alone meet b (map (movedSeries ρ) rs) ≡ map (movedEvent ρ) (leftResult alone meet b rs)
     left-moved b [] = rw optional-moved
     left-moved b (r ∷ rs) = cc (optional-moved (meet b (r ∷ rs)), still b (r ∷ rs))
@@ -157,10 +169,13 @@ module _ (ρ : Renumber) where
     right-moved b [] = refl
     right-moved b (l ∷ ls) = refl
 
-    set-rule-moved : (adds : Bool) (s : Placed) (xs : List Placed) → setRuleOf adds alone meet (movedSeries ρ s) (map (movedSeries ρ) xs) ≡ map (movedEvent ρ) (setRuleOf adds alone meet s xs)
+    set-rule-moved : (adds : Bool) (s : Placed) (xs : List Placed)
+        → setRuleOf adds alone meet (movedSeries ρ s) (map (movedSeries ρ) xs) ≡ map (movedEvent ρ) (setRuleOf adds alone meet s xs)
     set-rule-moved adds s xs = simp (side-moved, left-moved, right-moved, map-cond)
 
-plain-natural : (f : Plain) → ((ρ : Renumber) → Exact ρ → (s : Placed) (xs : List Placed) → f (movedSeries ρ s) (map (movedSeries ρ) xs) ≡ map (movedEvent ρ) (f s xs)) → Natural (plain f)
+plain-natural : (f : Plain) →
+    ((ρ : Renumber) → Exact ρ → (s : Placed) (xs : List Placed) → f (movedSeries ρ s) (map (movedSeries ρ) xs) ≡ map (movedEvent ρ) (f s xs))
+    → Natural (plain f)
 plain-natural f h = record { moves = λ ρ exact s xs. rw (h ρ exact s xs, mark-moved) }
 
 pub dropping-natural : {f : Rule} → Natural f → Natural (dropping f)
@@ -172,7 +187,8 @@ one-to-one-natural allowance work = plain-natural (Rules.oneToOne allowance work
 pub joined-natural : (allowance : ℕ) (edit work : Series → Series → Series) (many : Side) → Natural (joined allowance edit work many)
 joined-natural allowance edit work many = record { moves = λ ρ exact. joined-moved ρ exact allowance edit work many }
 
-pub set-rule-natural : (adds : Bool) (alone : Series → Option Series) (meet : Series → List Placed → Option Series) → ((ρ : Renumber) (b : Series) (rs : List Placed) → meet b (map (movedSeries ρ) rs) ≡ meet b rs)
+pub set-rule-natural : (adds : Bool) (alone : Series → Option Series) (meet : Series → List Placed → Option Series)
+    → ((ρ : Renumber) (b : Series) (rs : List Placed) → meet b (map (movedSeries ρ) rs) ≡ meet b rs)
     → Natural (plain (setRuleOf adds alone meet))
 set-rule-natural adds alone meet still = plain-natural (setRuleOf adds alone meet) (λ ρ exact. set-rule-moved ρ alone meet (still ρ) adds)
 

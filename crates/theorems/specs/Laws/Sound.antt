@@ -10,7 +10,9 @@ use Rattle.model.specs.Laws.Lists.{All-map, All-on-map, All-keep, All-gather}
 use Rattle.semantics.specs.Places.{Placed, Rank}
 use Rattle.semantics.specs.Events.{Event, good, bad, Ranked, mark, Rule, ofKey, emission, events, Verdict, answer, duplicate, front, settle, run}
 use Rattle.semantics.specs.Rules as Rules
-use Rattle.semantics.specs.Rules.{Plain, plain, onSide, other, ofSide, isFirst, Merged, nothing, one, clash, onMerged, mergedInto, absorbed, lastOf, earlierOnes, mergedIntoLast, mergedIntoEarliest, both, pairs, sameEdited, alikeTo, worked, groupOf, groups, joined, optional, leftResult, rightResult, setRuleOf, hasReadings, dropping}
+use Rattle.semantics.specs.Rules.{Plain, plain, onSide, other, ofSide, isFirst, Merged, nothing, one, clash, onMerged, mergedInto, absorbed, lastOf}
+use Rattle.semantics.specs.Rules.{earlierOnes, mergedIntoLast, mergedIntoEarliest, both, pairs, sameEdited, alikeTo, worked, groupOf, groups, joined}
+use Rattle.semantics.specs.Rules.{optional, leftResult, rightResult, setRuleOf, hasReadings, dropping}
 
 module _ (P : Series → Type 0) where
   abbrev pub Fine : Event → Type 0
@@ -57,14 +59,18 @@ module _ (P : Series → Type 0) where
   run-holds q f k xs a =
       settle-holds (events q f xs)
       (All-gather _ (emission q f xs) xs
-      (All-map (λ x h. All-on-map _ _ (f x (ofKey q (x .series .labels) xs)) (k .keeps x (ofKey q (x .series .labels) xs) h (All-keep _ (λ s. sameKey q (x .series .labels) (s .series .labels)) xs a))) xs a))
+      (All-map (λ x h. All-on-map _ _ (f x (ofKey q (x .series .labels) xs))
+      (k .keeps x (ofKey q (x .series .labels) xs) h (All-keep _ (λ s. sameKey q (x .series .labels) (s .series .labels)) xs a))) xs a))
 
   plain-keeps : (f : Plain) → ((s : Placed) (xs : List Placed) → P (s .series) → Each xs → All Fine (f s xs)) → Keeps (plain f)
   plain-keeps f h = record { keeps = λ s xs a b. marked (s .place) (f s xs) (h s xs a b) }
 
   pub dropping-keeps : (f : Rule) → Keeps f → Keeps (dropping f)
   dropping-keeps f k =
-      record { keeps = λ s xs a b. either _ (hasReadings (s .series)) (f s (keep (λ x. hasReadings (x .series)) xs)) [] (k .keeps s (keep (λ x. hasReadings (x .series)) xs) a (All-keep _ (λ x. hasReadings (x .series)) xs b)) tt }
+      record {
+        keeps = λ s xs a b. either _ (hasReadings (s .series)) (f s (keep (λ x. hasReadings (x .series)) xs)) []
+            (k .keeps s (keep (λ x. hasReadings (x .series)) xs) a (All-keep _ (λ x. hasReadings (x .series)) xs b)) tt;
+      }
 
   last-each : (x : Placed) (xs : List Placed) → P (x .series) → Each xs → P (lastOf x xs .series)
   last-each x [] h a = h
@@ -84,11 +90,13 @@ module _ (P : Series → Type 0) where
 
     absorbed-solid : (k : Placed) (xs : List Placed) (b : Series) → P b → Each xs → Solid (absorbed allowance k b xs)
     absorbed-solid k [] b h a = h
-    absorbed-solid k (x ∷ xs) b h a = on-merged-solid (mergedInto allowance b (x .series)) _ (λ c. absorbed allowance k c xs) (mergeSure b (x .series) h (a .0)) tt (λ c g. absorbed-solid k xs c g (a .1))
+    absorbed-solid k (x ∷ xs) b h a = on-merged-solid (mergedInto allowance b (x .series)) _ (λ c. absorbed allowance k c xs)
+        (mergeSure b (x .series) h (a .0)) tt (λ c g. absorbed-solid k xs c g (a .1))
 
     last-solid : (xs : List Placed) → Each xs → Solid (mergedIntoLast allowance xs)
     last-solid [] a = tt
-    last-solid (x ∷ xs) a = absorbed-solid (lastOf x xs) (earlierOnes x xs) (lastOf x xs .series) (last-each x xs (a .0) (a .1)) (earlier-each x xs (a .0) (a .1))
+    last-solid (x ∷ xs) a = absorbed-solid (lastOf x xs) (earlierOnes x xs) (lastOf x xs .series) (last-each x xs (a .0) (a .1))
+        (earlier-each x xs (a .0) (a .1))
 
     earliest-solid : (xs : List Placed) → Each xs → Solid (mergedIntoEarliest allowance xs)
     earliest-solid [] a = tt
@@ -113,33 +121,40 @@ module _ (P : Series → Type 0) where
         plain-keeps (Rules.oneToOne allowance work)
         (λ s xs a b.
         either Fine (isFirst s (ofSide left xs)) (both work (mergedIntoLast allowance (ofSide left xs)) (mergedIntoLast allowance (ofSide right xs))) []
-        (both-fine work w (mergedIntoLast allowance (ofSide left xs)) (mergedIntoLast allowance (ofSide right xs)) (last-solid (ofSide left xs) (side-each left xs b)) (last-solid (ofSide right xs) (side-each right xs b))) tt)
+        (both-fine work w (mergedIntoLast allowance (ofSide left xs)) (mergedIntoLast allowance (ofSide right xs))
+        (last-solid (ofSide left xs) (side-each left xs b)) (last-solid (ofSide right xs) (side-each right xs b))) tt)
 
-    pairs-each : (edit : Series → Series → Series) → ((b c : Series) → P b → P c → P (edit b c)) → (b : Series) (xs : List Placed) → P b → Each xs → Each (pairs edit b xs)
+    pairs-each : (edit : Series → Series → Series) → ((b c : Series) → P b → P c → P (edit b c)) → (b : Series) (xs : List Placed) → P b → Each xs
+        → Each (pairs edit b xs)
     pairs-each edit w b [] h a = tt
     pairs-each edit w b (x ∷ xs) h a = (w b (x .series) h (a .0), pairs-each edit w b xs h (a .1))
 
-    groups-fine : (work : Series → Series) → ((b : Series) → P b → P (work b)) → (cs : List Placed) → Each cs → All (λ e. Fine (e .what)) (groups allowance work cs)
+    groups-fine : (work : Series → Series) → ((b : Series) → P b → P (work b)) → (cs : List Placed) → Each cs
+        → All (λ e. Fine (e .what)) (groups allowance work cs)
     unfolding groups
     groups-fine work w cs a =
         All-gather _ (λ c. mark (c .place) (groupOf allowance work cs c)) cs
         (All-map (λ c h. marked (c .place) (groupOf allowance work cs c)
         (either Fine (isFirst c (alikeTo c cs)) _ []
-        (worked-fine work w (mergedIntoEarliest allowance (alikeTo c cs)) (earliest-solid (alikeTo c cs) (All-keep _ (λ x. sameEdited (c .series) (x .series)) cs a))) tt)) cs a)
+        (worked-fine work w (mergedIntoEarliest allowance (alikeTo c cs))
+        (earliest-solid (alikeTo c cs) (All-keep _ (λ x. sameEdited (c .series) (x .series)) cs a))) tt)) cs a)
 
-    pub joined-keeps : (edit : Series → Series → Series) → ((b c : Series) → P b → P c → P (edit b c)) → (work : Series → Series → Series) → ((b c : Series) → P b → P c → P (work b c)) → (many : Side)
+    pub joined-keeps : (edit : Series → Series → Series) → ((b c : Series) → P b → P c → P (edit b c)) → (work : Series → Series → Series)
+        → ((b c : Series) → P b → P c → P (work b c)) → (many : Side)
         → Keeps (joined allowance edit work many)
     joined-keeps edit e work w many =
         record {
           keeps = λ s xs a b. either _ (onSide many (s .place .side)) (groups allowance (work (s .series)) (pairs edit (s .series) (ofSide (other many) xs))) []
-              (groups-fine (work (s .series)) (λ c. w (s .series) c a) (pairs edit (s .series) (ofSide (other many) xs)) (pairs-each edit e (s .series) (ofSide (other many) xs) a (side-each (other many) xs b))) tt;
+              (groups-fine (work (s .series)) (λ c. w (s .series) c a) (pairs edit (s .series) (ofSide (other many) xs))
+              (pairs-each edit e (s .series) (ofSide (other many) xs) a (side-each (other many) xs b))) tt;
         }
 
   optional-fine : (o : Option Series) → Sure o → All Fine (optional o)
   optional-fine none h = tt
   optional-fine (some b) h = (h, tt)
 
-  left-fine : (alone : Series → Option Series) (meet : Series → List Placed → Option Series) → ((b : Series) → P b → Sure (alone b)) → ((b : Series) (cs : List Placed) → P b → Each cs → Sure (meet b cs))
+  left-fine : (alone : Series → Option Series) (meet : Series → List Placed → Option Series) → ((b : Series) → P b → Sure (alone b))
+      → ((b : Series) (cs : List Placed) → P b → Each cs → Sure (meet b cs))
       → (b : Series) (xs : List Placed) → P b → Each xs → All Fine (leftResult alone meet b xs)
   left-fine alone meet h k b [] a c = optional-fine (alone b) (h b a)
   left-fine alone meet h k b (x ∷ xs) a c = optional-fine (meet b (x ∷ xs)) (k b (x ∷ xs) a c)
@@ -148,8 +163,10 @@ module _ (P : Series → Type 0) where
   right-fine b [] a = (a, tt)
   right-fine b (x ∷ xs) a = tt
 
-  pub set-rule-keeps : (adds : Bool) (alone : Series → Option Series) (meet : Series → List Placed → Option Series) → ((b : Series) → P b → Sure (alone b)) → ((b : Series) (cs : List Placed) → P b → Each cs → Sure (meet b cs))
+  pub set-rule-keeps : (adds : Bool) (alone : Series → Option Series) (meet : Series → List Placed → Option Series)
+      → ((b : Series) → P b → Sure (alone b)) → ((b : Series) (cs : List Placed) → P b → Each cs → Sure (meet b cs))
       → Keeps (plain (setRuleOf adds alone meet))
   set-rule-keeps adds alone meet h k =
       plain-keeps (setRuleOf adds alone meet)
-      (λ s xs a b. either Fine (onSide left (s .place .side)) _ _ (left-fine alone meet h k (s .series) (ofSide right xs) a (side-each right xs b)) (either Fine adds _ [] (right-fine (s .series) (ofSide left xs) a) tt))
+      (λ s xs a b. either Fine (onSide left (s .place .side)) _ _ (left-fine alone meet h k (s .series) (ofSide right xs) a (side-each right xs b))
+      (either Fine adds _ [] (right-fine (s .series) (ofSide left xs) a) tt))

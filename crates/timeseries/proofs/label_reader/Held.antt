@@ -65,22 +65,26 @@ module _ {M : Type 1} (𝓤 : URA M) (H : Heap 𝓤) (A : Atoms 𝓤) (W : Given
   pub together : (s : RefT (List ℕ)) (n : ℕ) → n < 2 ^ 64 → ent 𝓤 (sem 𝓤 H A (OwnSlice κ s)) (sem 𝓤 H A (Own κ (record { labels = s; at = n })))
   together s n ok =
       qed W (‵ (OwnSlice κ s) ∷ []) ∵
-      nothing ! $ owned ! usize (Is usize) (uint-makes 𝓤 H A W w64) n _ (refl, ok) $ fjoin ! $ move ! (1 ∷ 0 ∷ []) $ fjoin ! $ by ! (own-shut 𝓤 H A W (D (κ, tt)) (L (κ, tt)) (s, (n, tt)))
+      nothing ! $ owned ! usize (Is usize) (uint-makes 𝓤 H A W w64) n _ (refl, ok) $ fjoin ! $ move ! (1 ∷ 0 ∷ []) $ fjoin ! $ by !
+      (own-shut 𝓤 H A W (D (κ, tt)) (L (κ, tt)) (s, (n, tt)))
 
   pub apart : (d : LabelReader) → ent 𝓤 (sem 𝓤 H A (Own κ d)) (sem 𝓤 H A (OwnSlice κ (d .labels)))
   apart d =
       let N : Declared = D (κ, tt) in
       let vd : Values (N .parts) = (d .labels, (d .at, tt)) in
       qed W (‵ (Own κ d) ∷ []) ∵
-      use1 W (given (T′.lowered d ∷ [] ≡ T′.lowered d ∷ []) (‵ (all-own (N .parts) (L (κ, tt)) vd))) (own-open 𝓤 H A W N (L (κ, tt)) vd (T′.lowered d)) $ learn ! (λ _.
-      use1 W (‵ (ownAt (N .parts) (L (κ, tt)) 0 (d .labels)) ⊛ ‵ (rest (N .parts) (L (κ, tt)) 0 vd)) (own-out 𝓤 H A W (N .parts) (L (κ, tt)) 0 vd) $ split ! $ move ! (1 ∷ []) $ drop ! $ done !)
+      use1 W (given (T′.lowered d ∷ [] ≡ T′.lowered d ∷ []) (‵ (all-own (N .parts) (L (κ, tt)) vd)))
+      (own-open 𝓤 H A W N (L (κ, tt)) vd (T′.lowered d)) $ learn ! (λ _.
+      use1 W (‵ (ownAt (N .parts) (L (κ, tt)) 0 (d .labels)) ⊛ ‵ (rest (N .parts) (L (κ, tt)) 0 vd))
+      (own-out 𝓤 H A W (N .parts) (L (κ, tt)) 0 vd) $ split ! $ move ! (1 ∷ []) $ drop ! $ done !)
 
   -- its machine value is of its type
   pub typed : (d : LabelReader) → Is (B (κ, tt)) d (T′.lowered d ∷ []) → Holds (hasTy (T′.mir (named 0)) (T′.lowered d)) × WT (T′.lowered d)
   typed d is = LL.lawful (D (κ, tt)) (L (κ, tt)) 𝓤 H A W .typed d _ is .0
 
 -- a function's walk, from each of its arguments, gives that its code meets its contract
-module _ {M : Type 1} (𝓤 : URA M) (H : Heap 𝓤) (A : Atoms 𝓤) (W : Given 𝓤 H A) (𝓣 : Tables 𝓤 H) (f : Fn) (E : Ended) (hs : Stays (E .signature .params) (E .kept)) (c : Clauses 𝓤 E) where
+module _ {M : Type 1} (𝓤 : URA M) (H : Heap 𝓤) (A : Atoms 𝓤) (W : Given 𝓤 H A) (𝓣 : Tables 𝓤 H) (f : Fn) (E : Ended)
+    (hs : Stays (E .signature .params) (E .kept)) (c : Clauses 𝓤 E) where
   abbrev S : Signature
   S = E .signature
 
@@ -92,7 +96,10 @@ module _ {M : Type 1} (𝓤 : URA M) (H : Heap 𝓤) (A : Atoms 𝓤) (W : Given
 
   pub by-walk : AllGo 𝓤 H A W (S .lifetimes) (S .params) (E .kept) hs
       → (sp : (κs : Lfts (S .lifetimes)) → Spells (ts κs)) → ((κs : Lfts (S .lifetimes)) → Tellss (ts κs) (Ises (ts κs)) (sp κs))
-      → ((κs : Lfts (S .lifetimes)) (qs : Shares (S .lifetimes)) (bounds : AllOutlive (S .lifetimes) (S .outlives) κs) (a : Args S κs) (g : c κs a .ghost) → Are (ts κs) (Ises (ts κs)) a (valss (ts κs) (sp κs) a)
-      → ent 𝓤 (onEntry 𝓤 H A S κs qs a (valss (ts κs) (sp κs) a)) (run (flat (ts κs) (valss (ts κs) (sp κs) a)) (walkOf 𝓤 H A E hs c .post ((κs, qs, bounds, a, valss (ts κs) (sp κs) a), g))))
+      → ((κs : Lfts (S .lifetimes)) (qs : Shares (S .lifetimes)) (bounds : AllOutlive (S .lifetimes) (S .outlives) κs) (a : Args S κs)
+      (g : c κs a .ghost) → Are (ts κs) (Ises (ts κs)) a (valss (ts κs) (sp κs) a)
+      → ent 𝓤 (onEntry 𝓤 H A S κs qs a (valss (ts κs) (sp κs) a))
+      (run (flat (ts κs) (valss (ts κs) (sp κs) a)) (walkOf 𝓤 H A E hs c .post ((κs, qs, bounds, a, valss (ts κs) (sp κs) a), g))))
       → Meets 𝓤 H A S run (closing 𝓤 H A E c)
-  by-walk gs sp tl k = walk-meets 𝓤 H A E hs W gs c run (WpFn-mono 𝓤 H (W .laws) 𝓣 f) (walked 𝓤 H A E hs c run sp tl (λ κs qs bounds a g are. via 𝓤 _ (fst∗ 𝓤 _ (c κs a .requires g)) (k κs qs bounds a g are)))
+  by-walk gs sp tl k = walk-meets 𝓤 H A E hs W gs c run (WpFn-mono 𝓤 H (W .laws) 𝓣 f)
+      (walked 𝓤 H A E hs c run sp tl (λ κs qs bounds a g are. via 𝓤 _ (fst∗ 𝓤 _ (c κs a .requires g)) (k κs qs bounds a g are)))

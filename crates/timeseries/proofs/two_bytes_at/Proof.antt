@@ -4,20 +4,20 @@ use Rattle.timeseries.proofs.Taking.{two-bytes-read}
 use Rattle.timeseries.proofs.two_bytes_at.Statement.{statement}
 use Rattle.timeseries.proofs.two_bytes_at.Tie as tie
 
-shared-slice-read-wide : tie.Need-shared-slice-read-wide
-shared-slice-read-wide c = search needs
+shared-slice-read-widened : tie.Need-shared-slice-read-widened
+shared-slice-read-widened c = search needs
 
-wide-requires : tie.Need-wide-requires
-wide-requires c κs = search needs
+widened-requires : tie.Need-widened-requires
+widened-requires c κs = search needs
 
-add-wide : tie.Need-add-wide
-add-wide c = search needs
+add-widened : tie.Need-add-widened
+add-widened c = search needs
 
-shared-slice-read-wide-2 : tie.Need-shared-slice-read-wide-2
-shared-slice-read-wide-2 c = search needs
+shared-slice-read-widened-2 : tie.Need-shared-slice-read-widened-2
+shared-slice-read-widened-2 c = search needs
 
-wide-requires-2 : tie.Need-wide-requires-2
-wide-requires-2 c κs = search needs
+widened-requires-2 : tie.Need-widened-requires-2
+widened-requires-2 c κs = search needs
 
 mul-result : tie.Need-mul-result
 mul-result c = search needs
@@ -32,11 +32,11 @@ pub two-bytes-at-spec : {M : Type 1} → statement M
 two-bytes-at-spec =
     tie.close
     (tie.spec
-    shared-slice-read-wide
-    wide-requires
-    add-wide
-    shared-slice-read-wide-2
-    wide-requires-2
+    shared-slice-read-widened
+    widened-requires
+    add-widened
+    shared-slice-read-widened-2
+    widened-requires-2
     mul-result
     add-result
     returns)

@@ -3,9 +3,8 @@ use Prim.Native.Nat.{ℕ}
 use mathlib.Core.List.{List}
 use lib.ListN.{length, drop}
 use Rattle.model.specs.Record.{decode}
-use Rattle.label_records.specs.declared.Record.{Record}
-use Rattle.label_records.specs.Records.{recordOf}
+use Rattle.label_records.specs.Records.{RecordAnswer, decodedAnswer}
 
--- the record at a position of a label array, as `label_records` reads it
-abbrev pub readFrom : List ℕ → ℕ → Record
-readFrom labels at = recordOf (length labels) (decode (drop at labels))
+-- the answer for the record at a position of a label array, as `label_records` gives it
+abbrev pub readFrom : List ℕ → ℕ → RecordAnswer
+readFrom labels at = decodedAnswer (length labels) (decode (drop at labels))

@@ -30,7 +30,15 @@ module _ (s : List ℕ) (at : ℕ) (ha : at ≤ length s) where
     part-here h =
         let e : at + 4 + n - (at + 4) ≡ n = omega arith in
         record {
-          read = rw (le-leb 4 (length (drop at s)) (omega (arith, length-drop at s)), size, le-leb n (length (drop 4 (drop at s))) (omega (arith, whole)), drop-drop 4 at s, drop-drop n (at + 4) s, e);
+          read = rw (
+            le-leb 4 (length (drop at s)) (omega (arith, length-drop at s)),
+            size,
+            le-leb n (length (drop 4 (drop at s)))
+                (omega (arith, whole)),
+            drop-drop 4 at s,
+            drop-drop n (at + 4) s,
+            e,
+          );
           within = (refl, omega arith, omega arith);
         }
 

@@ -8,6 +8,7 @@ use lib.ListN.{length, take, drop, set, length-drop, drop-of-length-le}
 use lib.Seq.{drop-drop, take-all}
 use lib.Dec.{eqb}
 use borrow.Author.Tests.{eq-eqb, ne-eqb}
+use Rattle.model.specs.Limits.{sizesLength}
 use Rattle.model.specs.Vector.{twoBytesAt}
 use Rattle.writing.specs.Written.{Put}
 use Rattle.writing.proofs.Written.{Rest, rest-start, rest-put, rest-done, put-byte-done, written-none}
@@ -29,12 +30,12 @@ pub split-short : (v : List ℕ) → length v < 6 → Split v (length v)
 split-short v h = split-all v (omega arith)
 
 module _ (v : List ℕ) (size : ℕ) (hs : Read (twoBytesAt v 4) 65536 size) where
-  pub split-cut : length v ≤ 6 + size → Split v (length v)
+  pub split-cut : length v ≤ sizesLength + size → Split v (length v)
   split-cut h = split-all v (omega (arith, hs .value))
 
-  pub split-here : 6 + size < length v → Split v (6 + size)
+  pub split-here : sizesLength + size < length v → Split v (sizesLength + size)
   split-here h =
-      let e : labelsSize v ≡ 6 + size = omega (arith, hs .value) in
+      let e : labelsSize v ≡ sizesLength + size = omega (arith, hs .value) in
       record { labels = rw e; readings = rw e; within = omega arith }
 
 -- the loop of `read_words`

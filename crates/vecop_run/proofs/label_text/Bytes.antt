@@ -67,5 +67,6 @@ module _ (b : ℕ) (d : List ℕ) (at : ℕ) (x : Bool) (hx : x ≡ isPlain b) w
     pub digits-put : (d′ : List ℕ) (r : ℕ) → Put d at (37 ∷ hexadecimal 2 b) d′ r → Put d at (escaped b) d′ r
     digits-put d′ r p = rw in-digits p
 
-pub field-room : (s d₀ : List ℕ) (at : ℕ) (d : List ℕ) (i o : ℕ) → i < length s → GatherLeft escaped s d₀ at d i o → o + length (escaped (getD s i 0)) ≤ length d
+pub field-room : (s d₀ : List ℕ) (at : ℕ) (d : List ℕ) (i o : ℕ) → i < length s → GatherLeft escaped s d₀ at d i o
+    → o + length (escaped (getD s i 0)) ≤ length d
 field-room s d₀ at d i o h inv = gather-room escaped s d₀ at d i o inv h

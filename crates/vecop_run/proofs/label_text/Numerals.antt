@@ -41,7 +41,8 @@ pub record DigitsLeft (base k n : ℕ) (d₀ : List ℕ) (at : ℕ) (d : List �
 pub digits-start : (base k n : ℕ) (d : List ℕ) (at : ℕ) → DigitsLeft base k n d at d k n
 digits-start base k n d at = record { some = omega arith; size = refl; same = refl }
 
-module _ (base k n : ℕ) (d₀ : List ℕ) (at : ℕ) (d : List ℕ) (i rest : ℕ) (inv : DigitsLeft base k n d₀ at d i rest) (room : at + length (digits base k n) ≤ length d₀) where
+module _ (base k n : ℕ) (d₀ : List ℕ) (at : ℕ) (d : List ℕ) (i rest : ℕ) (inv : DigitsLeft base k n d₀ at d i rest)
+    (room : at + length (digits base k n) ≤ length d₀) where
   fits : at + k ≤ length d₀
   fits = omega (arith, digits-length base k n)
 

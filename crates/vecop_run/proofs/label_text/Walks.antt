@@ -61,7 +61,8 @@ module _ (s : List ℕ) (n p : ℕ) (x : Next) (hx : NextAt every s n p x) (b a 
 pub record MoreLeft (s : List ℕ) (n from : ℕ) (d₀ : List ℕ) (at : ℕ) (d : List ℕ) (o m p : ℕ) : Type 0 where
   pub rest : Rest d₀ at (moreTags (tagsUpTo n (drop from s))) d o (moreTags (tagsUpTo m (drop p s)))
 
-pub more-start : (s : List ℕ) (n from : ℕ) (d : List ℕ) (at : ℕ) → at + length (moreTags (tagsUpTo n (drop from s))) ≤ length d → MoreLeft s n from d at d at n from
+pub more-start : (s : List ℕ) (n from : ℕ) (d : List ℕ) (at : ℕ) → at + length (moreTags (tagsUpTo n (drop from s))) ≤ length d
+    → MoreLeft s n from d at d at n from
 more-start s n from d at room = record { rest = rest-start d at (moreTags (tagsUpTo n (drop from s))) room }
 
 no-more : moreTags [] ≡ []
@@ -72,7 +73,8 @@ one-more : (t : Tag) (ts : List Tag) → moreTags (t ∷ ts) ≡ ((44 ∷ []) ++
 unfolding moreTags
 one-more t ts = refl
 
-module _ (s : List ℕ) (n from : ℕ) (d₀ : List ℕ) (at : ℕ) (d : List ℕ) (o m p : ℕ) (inv : MoreLeft s n from d₀ at d o m p) (x : Next) (hx : NextAt every s m p x) where
+module _ (s : List ℕ) (n from : ℕ) (d₀ : List ℕ) (at : ℕ) (d : List ℕ) (o m p : ℕ) (inv : MoreLeft s n from d₀ at d o m p) (x : Next)
+    (hx : NextAt every s m p x) where
   pub more-done : x ≡ N.End → Put d₀ at (moreTags (tagsUpTo n (drop from s))) d o
   more-done ex =
       rest-done d₀ at (moreTags (tagsUpTo n (drop from s))) d o (rw (next-ended every s m p x hx ex, no-more) at (inv .rest))
@@ -88,11 +90,13 @@ module _ (s : List ℕ) (n from : ℕ) (d₀ : List ℕ) (at : ℕ) (d : List �
     pub more-turn : (d′ : List ℕ) (r : ℕ) → Put d o ((44 ∷ []) ++ tagText (tagAt s a e z)) d′ r → MoreLeft s n from d₀ at d′ r k z
     more-turn d′ r q =
         record {
-          rest = piece-put d₀ at (moreTags (tagsUpTo n (drop from s))) d o ((44 ∷ []) ++ tagText (tagAt s a e z)) (moreTags (tagsUpTo k (drop z s))) more-left d′ r q;
+          rest = piece-put d₀ at (moreTags (tagsUpTo n (drop from s))) d o ((44 ∷ []) ++ tagText (tagAt s a e z))
+              (moreTags (tagsUpTo k (drop z s))) more-left d′ r q;
         }
 
 -- `put_tags`
-module _ (s : List ℕ) (n p : ℕ) (d : List ℕ) (at : ℕ) (room : at + length (tagsText (tagsUpTo n (drop p s))) ≤ length d) (x : Next) (hx : NextAt every s n p x) where
+module _ (s : List ℕ) (n p : ℕ) (d : List ℕ) (at : ℕ) (room : at + length (tagsText (tagsUpTo n (drop p s))) ≤ length d) (x : Next)
+    (hx : NextAt every s n p x) where
   pub tags-none : x ≡ N.End → Put d at (tagsText (tagsUpTo n (drop p s))) d at
   tags-none ex = put-nothing d at (tagsText (tagsUpTo n (drop p s))) (rw (next-ended every s n p x hx ex)) room
 

@@ -1,7 +1,7 @@
 -- The lines of an answer: a record and a row at a time. Assumes nothing.
 use Prim.Native.Nat.{ℕ, suc, _≤_, _<_, _+_, _-_, _*_, _^_}
-use mathlib.Core.Path.{_≡_, refl, sym, ap, _∙_}
-use mathlib.Core.List.{List, [], _∷_, _++_}
+use mathlib.Core.Path.{_≡_, refl, ap, _∙_}
+use mathlib.Core.List.{List, [], _++_}
 use native.Mathlib.Omega.{arith}
 use native.Mathlib.Nat.{suc-mul}
 use mir.Syntax.{w64}
@@ -11,7 +11,7 @@ use lib.Seq.{drop-drop}
 use Rattle.model.specs.Labels.{Labels}
 use Rattle.model.specs.Record.{Decoded, decoded, cut, badKey, decode}
 use Rattle.fields.proofs.Fields.{more}
-use Rattle.label_records.specs.Records.{recordOf}
+use Rattle.label_records.specs.Records.{refusal, recordAnswer, decodedAnswer}
 use Rattle.record_tags.specs.Lenient.{labelsOf, RecordAt, record-found}
 use Rattle.label_records.specs.declared.Record.{Record}
 use Rattle.label_records.specs.declared.Record.the-variants.{Ok, Cut, BadKey}
@@ -41,14 +41,14 @@ module _ (p : ℕ) (x y : List ℕ) (k : ℕ) where
   unfolding linesText
   bad-off e = rw e
 
-is-cut : (size : ℕ) (d : Decoded) → Cut ≡ recordOf size d → d ≡ cut
+is-cut : (size : ℕ) (d : Decoded) → refusal 3 ≡ decodedAnswer size d → d ≡ cut
 is-cut size (decoded l rest) h = absurd (let z : _≡_ {A = ℕ} 0 1 = cc in omega arith)
 is-cut size cut h = refl
-is-cut size badKey h = absurd (let z : _≡_ {A = ℕ} 0 1 = cc in omega arith)
+is-cut size badKey h = absurd (let z : _≡_ {A = ℕ} 3 4 = cc in omega arith)
 
-is-bad : (size : ℕ) (d : Decoded) → BadKey ≡ recordOf size d → d ≡ badKey
+is-bad : (size : ℕ) (d : Decoded) → refusal 4 ≡ decodedAnswer size d → d ≡ badKey
 is-bad size (decoded l rest) h = absurd (let z : _≡_ {A = ℕ} 0 1 = cc in omega arith)
-is-bad size cut h = absurd (let z : _≡_ {A = ℕ} 0 1 = cc in omega arith)
+is-bad size cut h = absurd (let z : _≡_ {A = ℕ} 3 4 = cc in omega arith)
 is-bad size badKey h = refl
 
 module _ (n p : ℕ) (x y d₀ : List ℕ) (at : ℕ) (d : List ℕ) (o from row left : ℕ) (inv : LinesLeft n p x y d₀ at d o from row left) where
@@ -57,7 +57,7 @@ module _ (n p : ℕ) (x y d₀ : List ℕ) (at : ℕ) (d : List ℕ) (o from row
   lines-done h = let e : left ≡ 0 = omega arith in
       rest-done d₀ at (linesText n p x y) d o (rw e at (inv .rest))
 
-  module _ (some : 0 < left) (r : Record) (hr : r ≡ recordOf (length x) (decode (drop from x))) where
+  module _ (some : 0 < left) (r : Record) (hr : recordAnswer r ≡ decodedAnswer (length x) (decode (drop from x))) where
     ended : linesText (suc (left - 1)) p (drop from x) (drop row y) ≡ [] → Put d₀ at (linesText n p x y) d o
     ended e =
         rest-done d₀ at (linesText n p x y) d o
@@ -66,11 +66,11 @@ module _ (n p : ℕ) (x y d₀ : List ℕ) (at : ℕ) (d : List ℕ) (o from row
 
     pub lines-cut : r ≡ Cut → Put d₀ at (linesText n p x y) d o
     lines-cut e =
-        ended (cut-off p (drop from x) (drop row y) (left - 1) (is-cut (length x) (decode (drop from x)) (sym e ∙ hr)))
+        ended (cut-off p (drop from x) (drop row y) (left - 1) (is-cut (length x) (decode (drop from x)) (rw e at hr)))
 
     pub lines-bad : r ≡ BadKey → Put d₀ at (linesText n p x y) d o
     lines-bad e =
-        ended (bad-off p (drop from x) (drop row y) (left - 1) (is-bad (length x) (decode (drop from x)) (sym e ∙ hr)))
+        ended (bad-off p (drop from x) (drop row y) (left - 1) (is-bad (length x) (decode (drop from x)) (rw e at hr)))
 
     split : left * p ≡ (left - 1) * p + p
     split = ap (λ (m : ℕ). m * p) (more left some) ∙ suc-mul (left - 1) p
@@ -91,11 +91,14 @@ module _ (n p : ℕ) (x y d₀ : List ℕ) (at : ℕ) (d : List ℕ) (o from row
       pub record-within : next ≤ length x
       record-within = here .within
 
-      lines-left : Rest d₀ at (linesText n p x y) d o (lineText (labelsOf (take (next - from) (drop from x))) (take (row + p - row) (drop row y)) ++ linesText (left - 1) p (drop next x) (drop (row + p) y))
+      lines-left : Rest d₀ at (linesText n p x y) d o
+          (lineText (labelsOf (take (next - from) (drop from x))) (take (row + p - row) (drop row y)) ++ linesText (left - 1) p (drop next x)
+          (drop (row + p) y))
       lines-left =
           let w : row + p - row ≡ p = omega arith in
           rest-as d₀ at (linesText n p x y) d o (linesText left p (drop from x) (drop row y))
-          (lineText (labelsOf (take (next - from) (drop from x))) (take (row + p - row) (drop row y)) ++ linesText (left - 1) p (drop next x) (drop (row + p) y))
+          (lineText (labelsOf (take (next - from) (drop from x))) (take (row + p - row) (drop row y)) ++ linesText (left - 1) p (drop next x)
+          (drop (row + p) y))
           (inv .rest)
           (ap (λ (m : ℕ). linesText m p (drop from x) (drop row y)) (more left some)
           ∙ line-first p (drop from x) (drop row y) (left - 1) (here .labels) (drop next x) (here .decodedAs)
@@ -103,14 +106,20 @@ module _ (n p : ℕ) (x y d₀ : List ℕ) (at : ℕ) (d : List ℕ) (o from row
 
       pub line-room : o + length (lineText (labelsOf (take (next - from) (drop from x))) (take (row + p - row) (drop row y))) ≤ length d
       line-room =
-          piece-room d₀ at (linesText n p x y) d o (lineText (labelsOf (take (next - from) (drop from x))) (take (row + p - row) (drop row y))) (linesText (left - 1) p (drop next x) (drop (row + p) y)) lines-left
+          piece-room d₀ at (linesText n p x y) d o (lineText (labelsOf (take (next - from) (drop from x))) (take (row + p - row) (drop row y)))
+          (linesText (left - 1) p (drop next x) (drop (row + p) y)) lines-left
 
-      pub lines-turn : (d′ : List ℕ) (q : ℕ) → Put d o (lineText (labelsOf (take (next - from) (drop from x))) (take (row + p - row) (drop row y))) d′ q → LinesLeft n p x y d₀ at d′ q next (row + p) (left - 1)
+      pub lines-turn : (d′ : List ℕ) (q : ℕ) → Put d o
+          (lineText (labelsOf (take (next - from) (drop from x))) (take (row + p - row) (drop row y))) d′ q
+          → LinesLeft n p x y d₀ at d′ q next (row + p) (left - 1)
       lines-turn d′ q put =
           record {
             rows = omega (arith, inv .rows, split);
-            rest = piece-put d₀ at (linesText n p x y) d o (lineText (labelsOf (take (next - from) (drop from x))) (take (row + p - row) (drop row y))) (linesText (left - 1) p (drop next x) (drop (row + p) y)) lines-left d′ q put;
+            rest = piece-put d₀ at (linesText n p x y) d o
+                (lineText (labelsOf (take (next - from) (drop from x))) (take (row + p - row) (drop row y)))
+                (linesText (left - 1) p (drop next x) (drop (row + p) y)) lines-left d′ q put;
           }
 
-pub row-room : (s d₀ : List ℕ) (at : ℕ) (d : List ℕ) (i o : ℕ) → i < length s → GatherLeft readingText s d₀ at d i o → o + length (readingText (getD s i 0)) ≤ length d
+pub row-room : (s d₀ : List ℕ) (at : ℕ) (d : List ℕ) (i o : ℕ) → i < length s → GatherLeft readingText s d₀ at d i o
+    → o + length (readingText (getD s i 0)) ≤ length d
 row-room s d₀ at d i o h inv = gather-room readingText s d₀ at d i o inv h

@@ -100,7 +100,8 @@ module _ (n p : ℕ) (x y : List ℕ) (d : List ℕ) (room : length (answerText 
 
   module _ (d₁ : List ℕ) (o₁ : ℕ) (p₁ : Put d 0 (97 ∷ 110 ∷ 115 ∷ 119 ∷ 101 ∷ 114 ∷ 32 ∷ []) d₁ o₁) where
     answer-left-2 : Rest d 0 (answerText n p x y) d₁ o₁ ((twoNumbers n p) ++ (linesText n p x y))
-    answer-left-2 = piece-put d 0 (answerText n p x y) d 0 (97 ∷ 110 ∷ 115 ∷ 119 ∷ 101 ∷ 114 ∷ 32 ∷ []) ((twoNumbers n p) ++ (linesText n p x y)) answer-left-1 d₁ o₁ p₁
+    answer-left-2 = piece-put d 0 (answerText n p x y) d 0 (97 ∷ 110 ∷ 115 ∷ 119 ∷ 101 ∷ 114 ∷ 32 ∷ [])
+        ((twoNumbers n p) ++ (linesText n p x y)) answer-left-1 d₁ o₁ p₁
 
     pub answer-2 : o₁ + length (twoNumbers n p) ≤ length d₁
     answer-2 = piece-room d 0 (answerText n p x y) d₁ o₁ (twoNumbers n p) (linesText n p x y) answer-left-2
@@ -122,11 +123,13 @@ module _ (k a b : ℕ) (d : List ℕ) (room : length (refusalText k a b) ≤ len
   refusal-left-1 = rest-start d 0 (refusalText k a b) (rw zero-add room)
 
   pub refusal-1 : 0 + 8 ≤ length d
-  refusal-1 = piece-room d 0 (refusalText k a b) d 0 (114 ∷ 101 ∷ 102 ∷ 117 ∷ 115 ∷ 101 ∷ 100 ∷ 32 ∷ []) ((decimal k) ++ ((32 ∷ []) ++ (twoNumbers a b))) refusal-left-1
+  refusal-1 = piece-room d 0 (refusalText k a b) d 0 (114 ∷ 101 ∷ 102 ∷ 117 ∷ 115 ∷ 101 ∷ 100 ∷ 32 ∷ [])
+      ((decimal k) ++ ((32 ∷ []) ++ (twoNumbers a b))) refusal-left-1
 
   module _ (d₁ : List ℕ) (o₁ : ℕ) (p₁ : Put d 0 (114 ∷ 101 ∷ 102 ∷ 117 ∷ 115 ∷ 101 ∷ 100 ∷ 32 ∷ []) d₁ o₁) where
     refusal-left-2 : Rest d 0 (refusalText k a b) d₁ o₁ ((decimal k) ++ ((32 ∷ []) ++ (twoNumbers a b)))
-    refusal-left-2 = piece-put d 0 (refusalText k a b) d 0 (114 ∷ 101 ∷ 102 ∷ 117 ∷ 115 ∷ 101 ∷ 100 ∷ 32 ∷ []) ((decimal k) ++ ((32 ∷ []) ++ (twoNumbers a b))) refusal-left-1 d₁ o₁ p₁
+    refusal-left-2 = piece-put d 0 (refusalText k a b) d 0 (114 ∷ 101 ∷ 102 ∷ 117 ∷ 115 ∷ 101 ∷ 100 ∷ 32 ∷ [])
+        ((decimal k) ++ ((32 ∷ []) ++ (twoNumbers a b))) refusal-left-1 d₁ o₁ p₁
 
     pub refusal-2 : o₁ + length (decimal k) ≤ length d₁
     refusal-2 = piece-room d 0 (refusalText k a b) d₁ o₁ (decimal k) ((32 ∷ []) ++ (twoNumbers a b)) refusal-left-2

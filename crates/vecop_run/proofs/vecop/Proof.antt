@@ -1,6 +1,7 @@
 -- `vecop_run::vecop` meets its contract. Assumes nothing.
 use borrow.Author.Needs.{needs}
-use Rattle.vecop_run.proofs.Parts.{nothing-read, query-order, left-order, right-order, query-end, left-end, left-fits, right-fits, left-short, right-short, parts-put}
+use Rattle.vecop_run.proofs.Parts.{nothing-read, query-order, left-order, right-order, query-end, left-end, left-fits, right-fits, left-short}
+use Rattle.vecop_run.proofs.Parts.{right-short, parts-put}
 use Rattle.vecop_run.proofs.vecop.Statement.{statement}
 use Rattle.vecop_run.proofs.vecop.Tie as tie
 

@@ -4,12 +4,13 @@ use mathlib.Core.Bool.{cond}
 use mathlib.Core.List.{List, [], _∷_}
 use lib.Dec.{eqb}
 use lib.ListN.{length, take, drop}
+use Rattle.model.specs.Limits.{sizesLength}
 use Rattle.model.specs.Vector.{twoBytesAt}
 use Rattle.vecop_run.specs.frame.Frames.{eightBytesAt}
 
 -- the six size bytes, and as many label bytes as they say
 abbrev pub labelsSize : List ℕ → ℕ
-labelsSize v = 6 + twoBytesAt v 4
+labelsSize v = sizesLength + twoBytesAt v 4
 
 abbrev pub labelsIn : List ℕ → List ℕ
 labelsIn v = take (labelsSize v) v

@@ -1,12 +1,10 @@
+-- `check_leads` meets its contract. Assumes nothing.
 use borrow.Author.Needs.{needs}
 use Prim.Native.Nat.{_-_}
 use lib.ListN.{length}
 use Rattle.joins.proofs.join_leads.Checking.{Checking, check-starts, check-past, check-done, check-failed, check-ends}
 use Rattle.joins.proofs.join_leads.check_leads.Statement.{statement}
 use Rattle.joins.proofs.join_leads.check_leads.Tie as tie
-use Rattle.joins.proofs.join_leads.check_leads.Reads as reads
-use Rattle.joins.proofs.join_leads.check_leads.Lts as lts
-use Rattle.joins.proofs.join_leads.try_lead.Reads as try-lead-reads
 
 abbrev Inv-loop : tie.InvT-loop
 Inv-loop rows p leads allowance n₀ n = Checking allowance p rows leads n
@@ -14,54 +12,42 @@ Inv-loop rows p leads allowance n₀ n = Checking allowance p rows leads n
 abbrev μ-loop : tie.MeasureT-loop
 μ-loop rows p leads allowance n₀ n = length leads - n
 
--- src/lib.rt:109:5
 loop-holds : tie.Need-loop-holds Inv-loop μ-loop
 loop-holds c = search check-starts
 
--- src/lib.rt:111:9
 add-n : tie.Need-add-n Inv-loop μ-loop
 add-n c = search needs
 
--- src/lib.rt:112:12
 mul-if1 : tie.Need-mul-if1 Inv-loop μ-loop
 mul-if1 c = search needs
 
--- src/lib.rt:112:12
 shared-slice-read-if1 : tie.Need-shared-slice-read-if1 Inv-loop μ-loop
 shared-slice-read-if1 c = search needs
 
--- src/lib.rt:113:17
 try-lead-requires : tie.Need-try-lead-requires Inv-loop μ-loop
 try-lead-requires c κs = search needs
 
 enum-told : tie.Need-enum-told Inv-loop μ-loop
 enum-told c = search needs
 
--- src/lib.rt:109:5
 loop-less : tie.Need-loop-less Inv-loop μ-loop
 loop-less c = search needs
 
--- src/lib.rt:109:5
 loop-again : tie.Need-loop-again Inv-loop μ-loop
 loop-again c = search check-done
 
--- src/lib.rt:116:34
 enum-known-m : tie.Need-enum-known-m Inv-loop μ-loop
 enum-known-m c = search needs
 
--- src/lib.rt:117:21
 returns : tie.Need-returns Inv-loop μ-loop
 returns c = search check-failed
 
--- src/lib.rt:109:5
 loop-less-2 : tie.Need-loop-less-2 Inv-loop μ-loop
 loop-less-2 c = search needs
 
--- src/lib.rt:109:5
 loop-again-2 : tie.Need-loop-again-2 Inv-loop μ-loop
 loop-again-2 c = search check-past
 
--- src/lib.rt:103:1
 returns-2 : tie.Need-returns-2 Inv-loop μ-loop
 returns-2 c = search check-ends
 

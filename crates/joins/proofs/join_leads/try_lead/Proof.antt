@@ -1,37 +1,28 @@
+-- `try_lead` meets its contract. Assumes nothing.
 use native.Mathlib.Omega.{arith}
 use borrow.Author.Needs.{needs}
 use Rattle.model.specs.Laws.Lists.{front-long}
 use Rattle.joins.proofs.join_leads.Checking.{tried-alone, front-held, tried-front}
 use Rattle.joins.proofs.join_leads.try_lead.Statement.{statement}
 use Rattle.joins.proofs.join_leads.try_lead.Tie as tie
-use Rattle.joins.proofs.join_leads.try_lead.Reads as reads
-use Rattle.joins.proofs.join_leads.try_lead.Lts as lts
-use Rattle.merging.proofs.merge_lead.Reads as merge-lead-reads
-use Rattle.key_places.proofs.last_of.Reads as last-of-reads
 
--- src/lib.rt:89:8
 last-of-requires : tie.Need-last-of-requires
 last-of-requires c κs = search needs
 
--- src/lib.rt:90:9
 returns : tie.Need-returns
 returns c = search tried-alone
 
--- src/lib.rt:93:52
 array-borrow-prefix-work : tie.Need-array-borrow-prefix-work
 array-borrow-prefix-work c = search needs
 
--- src/lib.rt:93:52
 slice-aggregate-merge-lead : tie.Need-slice-aggregate-merge-lead
 slice-aggregate-merge-lead c = front-long (c .before .before .before .before .before .args .p) _ (omega arith)
 
--- src/lib.rt:93:5
 merge-lead-requires : tie.Need-merge-lead-requires
 merge-lead-requires c κs =
     let s = c .before .before .before .before .before in
     (omega arith, front-held (s .args .p) _ _ _ (omega arith) (s .pre .1 .0))
 
--- src/lib.rt:83:1
 returns-2 : tie.Need-returns-2
 returns-2 c =
     let s = c .before .before .before .before .before .before .before in

@@ -1,32 +1,24 @@
+-- `apply_join` meets its contract. Assumes nothing.
 use borrow.Author.Needs.{needs}
 use Rattle.joins.proofs.join_rows.Rows.{applied-left, applied-right}
 use Rattle.joins.proofs.join_rows.apply_join.Statement.{statement}
 use Rattle.joins.proofs.join_rows.apply_join.Tie as tie
-use Rattle.joins.proofs.join_rows.apply_join.Reads as reads
-use Rattle.joins.proofs.join_rows.apply_join.Lts as lts
-use Rattle.rows.proofs.apply_rows.Reads as apply-rows-reads
 
--- src/lib.rt:38:9
 apply-rows-requires : tie.Need-apply-rows-requires
 apply-rows-requires c κs = search needs
 
--- src/lib.rt:40:9
 apply-rows-requires-2 : tie.Need-apply-rows-requires-2
 apply-rows-requires-2 c κs = search needs
 
--- src/lib.rt:31:1
 same-length : tie.Need-same-length
 same-length c = search needs
 
--- src/lib.rt:31:1
 returns : tie.Need-returns
 returns c = search applied-left
 
--- src/lib.rt:31:1
 same-length-2 : tie.Need-same-length-2
 same-length-2 c = search needs
 
--- src/lib.rt:31:1
 returns-2 : tie.Need-returns-2
 returns-2 c = search applied-right
 

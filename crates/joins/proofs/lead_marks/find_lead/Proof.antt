@@ -1,3 +1,4 @@
+-- `find_lead` meets its contract. Assumes nothing.
 use borrow.Author.Needs.{needs}
 use Prim.Native.Nat.{_-_}
 use native.Mathlib.Omega.{arith}
@@ -5,10 +6,6 @@ use Rattle.labels.specs.Names.{namesOf}
 use Rattle.joins.proofs.lead_marks.Marking.{Finding, find-starts, find-past, find-other-hash, find-unlike, find-here, find-itself}
 use Rattle.joins.proofs.lead_marks.find_lead.Statement.{statement}
 use Rattle.joins.proofs.lead_marks.find_lead.Tie as tie
-use Rattle.joins.proofs.lead_marks.find_lead.Reads as reads
-use Rattle.joins.proofs.lead_marks.find_lead.Lts as lts
-use Rattle.set_tags.proofs.same_edited.Reads as same-edited-reads
-use Rattle.side_parts.proofs.record.Reads as record-reads
 
 abbrev Inv-loop : tie.InvT-loop
 Inv-loop many array at leads hashes o h join skip rec n₀ n = Finding (namesOf join) (namesOf skip) many array at leads hashes o n
@@ -16,71 +13,54 @@ Inv-loop many array at leads hashes o h join skip rec n₀ n = Finding (namesOf 
 abbrev μ-loop : tie.MeasureT-loop
 μ-loop many array at leads hashes o h join skip rec n₀ n = o - n
 
--- src/lib.rt:31:9
 record-requires : tie.Need-record-requires Inv-loop μ-loop
 record-requires c κs = search needs
 
--- src/lib.rt:33:5
 loop-holds : tie.Need-loop-holds Inv-loop μ-loop
 loop-holds c = search find-starts
 
--- src/lib.rt:35:9
 add-n : tie.Need-add-n Inv-loop μ-loop
 add-n c = search needs
 
--- src/lib.rt:36:12
 mul-if1 : tie.Need-mul-if1 Inv-loop μ-loop
 mul-if1 c = search needs
 
--- src/lib.rt:36:12
 shared-slice-read-if1 : tie.Need-shared-slice-read-if1 Inv-loop μ-loop
 shared-slice-read-if1 c = search needs
 
--- src/lib.rt:37:16
 mul-if2 : tie.Need-mul-if2 Inv-loop μ-loop
 mul-if2 c = search needs
 
--- src/lib.rt:37:16
 shared-slice-read-if2 : tie.Need-shared-slice-read-if2 Inv-loop μ-loop
 shared-slice-read-if2 c = search needs
 
--- src/lib.rt:38:48
 record-requires-2 : tie.Need-record-requires-2 Inv-loop μ-loop
 record-requires-2 c κs = (search needs, omega arith)
 
--- src/lib.rt:38:20
 same-edited-requires : tie.Need-same-edited-requires Inv-loop μ-loop
 same-edited-requires c κs = search needs
 
--- src/lib.rt:39:21
 returns : tie.Need-returns Inv-loop μ-loop
 returns c = search find-here
 
--- src/lib.rt:33:5
 loop-less : tie.Need-loop-less Inv-loop μ-loop
 loop-less c = search needs
 
--- src/lib.rt:33:5
 loop-again : tie.Need-loop-again Inv-loop μ-loop
 loop-again c = search find-unlike
 
--- src/lib.rt:33:5
 loop-less-2 : tie.Need-loop-less-2 Inv-loop μ-loop
 loop-less-2 c = search needs
 
--- src/lib.rt:33:5
 loop-again-2 : tie.Need-loop-again-2 Inv-loop μ-loop
 loop-again-2 c = search find-other-hash
 
--- src/lib.rt:33:5
 loop-less-3 : tie.Need-loop-less-3 Inv-loop μ-loop
 loop-less-3 c = search needs
 
--- src/lib.rt:33:5
 loop-again-3 : tie.Need-loop-again-3 Inv-loop μ-loop
 loop-again-3 c = search find-past
 
--- src/lib.rt:13:1
 returns-2 : tie.Need-returns-2 Inv-loop μ-loop
 returns-2 c = search find-itself
 

@@ -1,4 +1,4 @@
--- `key_places::drop_missing` meets its contract. Assumes nothing.
+-- `dropped::drop_missing` meets its contract. Assumes nothing.
 use borrow.Author.Needs.{needs}
 use Prim.Native.Nat.{_-_}
 use lib.ListN.{length}

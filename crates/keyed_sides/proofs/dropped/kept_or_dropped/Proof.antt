@@ -1,4 +1,4 @@
--- `key_places::kept_or_dropped` meets its contract. Assumes nothing.
+-- `dropped::kept_or_dropped` meets its contract. Assumes nothing.
 use borrow.Author.Needs.{needs}
 use Rattle.keyed_sides.proofs.dropped.Dropping.{row-gone, row-stays}
 use Rattle.keyed_sides.proofs.dropped.kept_or_dropped.Statement.{statement}

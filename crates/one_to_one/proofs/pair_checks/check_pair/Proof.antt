@@ -1,6 +1,6 @@
 -- `check_pair` meets its contract. Assumes nothing.
 use Rattle.one_to_one.proofs.pair_checks.Checks.{check-left, check-right, check-fine}
-use Rattle.end_codes.specs.Codes.{left-ends, right-ends}
+use Rattle.key_ends.specs.end_codes.Codes.{left-ends, right-ends}
 use borrow.Author.Needs.{needs}
 use Rattle.one_to_one.proofs.pair_checks.check_pair.Statement.{statement}
 use Rattle.one_to_one.proofs.pair_checks.check_pair.Tie as tie
@@ -10,11 +10,15 @@ check-pair-spec =
     tie.close
     (tie.spec
     (λ c κs. search needs)
+    (λ c. search needs)
+    (λ c. search needs)
     (λ c κs. search needs)
     (λ c κs. (search needs, search left-ends))
     (λ c. search needs)
     (λ c. search needs)
     (λ c κs. search needs)
+    (λ c. search needs)
+    (λ c. search needs)
     (λ c κs. search needs)
     (λ c κs. (search needs, search right-ends))
     (λ c. search needs)

@@ -14,4 +14,9 @@ returns-2 c = refl
 pub same-spec : {M : Type 1} → statement M
 same-spec =
     tie.close
-    (tie.spec (λ c κs. tt) returns (λ c. let a = c .before .before .args in left-solid (a .left) (a .right) (omega arith)) (λ c. let a = c .before .before .args in right-solid (a .left) (a .right) (omega arith)) returns-2)
+    (tie.spec
+    (λ c κs. tt)
+    returns
+    (λ c. let a = c .before .before .args in left-solid (a .left) (a .right) (omega arith))
+    (λ c. let a = c .before .before .args in right-solid (a .left) (a .right) (omega arith))
+    returns-2)

@@ -1,12 +1,22 @@
 -- `op_if_not` meets its contract, from those of its calls. Assumes nothing.
-use mathlib.Core.Path.{_∙_}
-use Rattle.set_rules.specs.binaryop.Leaves.{whereMissing}
+use Prim.Native.Nat.{ℕ}
+use mathlib.Core.Path.{_≡_, refl, _∙_}
+use mathlib.Core.Bool.{Bool, true, false, cond}
+use mathlib.Core.Option.{none, some}
+use Rattle.operator.specs.Kinds.{whereNone}
+use Rattle.model.specs.Reading.{missing, noReading}
+use Rattle.plan.specs.Sets.{setPoint}
+use Rattle.set_rules.specs.set_points.Points.{onReading}
 use Rattle.set_rules.proofs.binaryop.op_if_not.Statement.{statement}
 use Rattle.set_rules.proofs.binaryop.op_if_not.Tie as tie
 
-returns : tie.Need-returns
-unfolding whereMissing
-returns c = c .pick .ensures ∙ rw (c .before .is-missing .ensures)
+by-right : (t : Bool) (x y : ℕ) → cond t x noReading ≡ setPoint whereNone (cond t none (some y)) x
+by-right true x y = refl
+by-right false x y = refl
+
+picked : (t : Bool) (x y r : ℕ) → t ≡ missing y → r ≡ cond t x noReading → r ≡ onReading whereNone x y
+unfolding onReading
+picked t x y r e h = h ∙ by-right t x y ∙ rw e
 
 pub op-if-not-spec : {M : Type 1} → statement M
-op-if-not-spec = tie.close (tie.spec (λ c κs. tt) (λ c κs. tt) returns)
+op-if-not-spec = tie.close (tie.spec (λ c κs. tt) (λ c κs. tt) (λ c. search picked))

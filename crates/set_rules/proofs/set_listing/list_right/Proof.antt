@@ -1,17 +1,17 @@
 -- `list_right` meets its contract. Assumes nothing.
 use Prim.Native.Nat.{_-_}
 use lib.ListN.{length}
-use Rattle.set_sides.proofs.Sides.{ends-room}
+use Rattle.set_rules.proofs.Sides.{ends-room}
 use Rattle.set_rules.proofs.set_listing.Listing.{RightListing, right-starts, right-turn, right-length, right-ends}
 use borrow.Author.Needs.{needs}
 use Rattle.set_rules.proofs.set_listing.list_right.Statement.{statement}
 use Rattle.set_rules.proofs.set_listing.list_right.Tie as tie
 
 abbrev Inv-loop : tie.InvT-loop
-Inv-loop lkeys keys ends n list₀ r₀ j₀ list r j = RightListing lkeys keys n list₀ r j list
+Inv-loop left-keys keys ends n list₀ r₀ j₀ list r j = RightListing left-keys keys n list₀ r j list
 
 abbrev μ-loop : tie.MeasureT-loop
-μ-loop lkeys keys ends n list₀ r₀ j₀ list r j = length keys - j
+μ-loop left-keys keys ends n list₀ r₀ j₀ list r j = length keys - j
 
 pub list-right-spec : {M : Type 1} → statement M
 list-right-spec =

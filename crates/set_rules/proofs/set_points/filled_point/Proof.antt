@@ -8,4 +8,9 @@ use Rattle.set_rules.proofs.set_points.filled_point.Tie as tie
 pub filled-point-spec : {M : Type 1} → statement M
 filled-point-spec =
     tie.close
-    (tie.spec (λ c κs. search needs) (λ c κs. search needs) (λ c κs. search needs) (λ c. c .op-default .ensures ∙ rw (c .before .first-reading .ensures)) (λ c. search filled-stays))
+    (tie.spec
+    (λ c κs. search needs)
+    (λ c κs. search needs)
+    (λ c κs. search needs)
+    (λ c. c .op-default .ensures ∙ rw (c .before .first-reading .ensures))
+    (λ c. search filled-stays))

@@ -10,7 +10,8 @@ use Rattle.set_tags.proofs.edited_alike.hash_edited.Statement.{statemen
 use Rattle.set_tags.proofs.edited_alike.hash_edited.Tie as tie
 
 abbrev Inv-loop : tie.InvT-loop
-Inv-loop many source join skip w₀ h₀ w h = HashLeft (namesOf join) (namesOf skip) many source w h (hashOf (editedTags (namesOf join) (namesOf skip) many source))
+Inv-loop many source join skip w₀ h₀ w h =
+    HashLeft (namesOf join) (namesOf skip) many source w h (hashOf (editedTags (namesOf join) (namesOf skip) many source))
 
 abbrev μ-loop : tie.MeasureT-loop
 μ-loop many source join skip w₀ h₀ w h = w .left + w .more

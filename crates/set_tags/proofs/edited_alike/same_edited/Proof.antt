@@ -10,7 +10,9 @@ use Rattle.set_tags.proofs.edited_alike.same_edited.Statement.{statemen
 use Rattle.set_tags.proofs.edited_alike.same_edited.Tie as tie
 
 abbrev Inv-loop : tie.InvT-loop
-Inv-loop many a b join skip v₀ w₀ v w = SameLeft (namesOf join) (namesOf skip) many a b v w (sameTags (editedTags (namesOf join) (namesOf skip) many a) (editedTags (namesOf join) (namesOf skip) many b))
+Inv-loop many a b join skip v₀ w₀ v w =
+    SameLeft (namesOf join) (namesOf skip) many a b v w
+    (sameTags (editedTags (namesOf join) (namesOf skip) many a) (editedTags (namesOf join) (namesOf skip) many b))
 
 abbrev μ-loop : tie.MeasureT-loop
 μ-loop many a b join skip v₀ w₀ v w = v .left + v .more

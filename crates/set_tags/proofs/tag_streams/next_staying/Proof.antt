@@ -9,7 +9,9 @@ use Rattle.set_tags.proofs.tag_streams.next_staying.Statement.{statemen
 use Rattle.set_tags.proofs.tag_streams.next_staying.Tie as tie
 
 abbrev Inv-loop : tie.InvT-loop
-Inv-loop many at n source join skip p₀ m₀ p m = Passed (stays (namesOf join) (namesOf skip) (labelsOf source .tags)) (stayingTags (namesOf join) (namesOf skip) (labelsOf source .tags)) many n at m p
+Inv-loop many at n source join skip p₀ m₀ p m =
+    Passed (stays (namesOf join) (namesOf skip) (labelsOf source .tags))
+    (stayingTags (namesOf join) (namesOf skip) (labelsOf source .tags)) many n at m p
 
 abbrev μ-loop : tie.MeasureT-loop
 μ-loop many at n source join skip p₀ m₀ p m = m

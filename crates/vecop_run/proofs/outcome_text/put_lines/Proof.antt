@@ -1,6 +1,7 @@
 -- `outcome_text::put_lines` meets its contract. Assumes nothing.
 use borrow.Author.Needs.{needs}
-use Rattle.vecop_run.proofs.outcome_text.Lines.{LinesLeft, lines-start, lines-done, lines-cut, lines-bad, row-within, row-fits, record-order, record-within, line-room, lines-turn}
+use Rattle.vecop_run.proofs.outcome_text.Lines.{LinesLeft, lines-start, lines-done, lines-cut, lines-bad, row-within, row-fits, record-order}
+use Rattle.vecop_run.proofs.outcome_text.Lines.{record-within, line-room, lines-turn}
 use Rattle.vecop_run.proofs.outcome_text.put_lines.Statement.{statement}
 use Rattle.vecop_run.proofs.outcome_text.put_lines.Tie as tie
 

@@ -1,6 +1,7 @@
 -- `outcome_text::put_outcome` meets its contract. Assumes nothing.
 use borrow.Author.Needs.{needs}
-use Rattle.vecop_run.proofs.outcome_text.Outcomes.{bytes-measured, readings-measured, readings-fit, readings-there, answer-room, answer-told, refusal-room, refusal-told}
+use Rattle.vecop_run.proofs.outcome_text.Outcomes.{bytes-measured, readings-measured, readings-fit, readings-there, answer-room, answer-told}
+use Rattle.vecop_run.proofs.outcome_text.Outcomes.{refusal-room, refusal-told}
 use Rattle.vecop_run.proofs.outcome_text.put_outcome.Statement.{statement}
 use Rattle.vecop_run.proofs.outcome_text.put_outcome.Tie as tie
 

@@ -1,0 +1,64 @@
+// Numbers noted in an array, and the right places that a left series meets.
+ghost use mathlib.Core.Path.{_≡_};
+ghost use Prim.Native.Nat.{_+_, _≤_, _<_};
+ghost use lib.ListN.{length, set};
+ghost use Rattle.model.specs.Limits.{maxSeries};
+ghost use Rattle.plan.specs.Keys.{KeyEnds};
+ghost use Rattle.plan.specs.Sets.{placesOf, metPlaces};
+ghost use Rattle.index_lists.specs.Places.{NotedIf, NotedAll};
+
+// Writes a number at the place n of a list, unless the list is full.
+pub fn note(list: &mut [usize], n: usize, x: usize)
+    ensures { λ _. ⌜ now (list .exit) ≡ set (now (list .entry)) n x ⌝ }
+{
+    if n < list.len() {
+        list[n] = x;
+    }
+}
+
+// Lists a number behind the n before it where a test holds. Counts on where the list is full.
+pub fn note_if(here: bool, x: usize, n: usize, list: &mut [usize]) -> usize
+    requires { ⌜ n ≤ 1024 ⌝ }
+    ensures { λ r. ⌜ NotedIf here x n (now (list .entry)) (now (list .exit)) r ⌝ }
+{
+    if here {
+        note(list, n, x);
+        return n + 1;
+    }
+    n
+}
+
+// Lists the places of a key that stands somewhere, from its first to its last, and counts them.
+fn places_of(keys: &[usize], k: usize, first: usize, last: usize, places: &mut [usize]) -> usize
+    requires { ⌜ length (now keys) ≤ maxSeries ⌝ }
+    requires { ⌜ KeyEnds (now keys) k first last ⌝ }
+    requires { ⌜ last < length (now keys) ⌝ }
+    ensures { λ r. ⌜ NotedAll (placesOf k 0 (now (keys .entry))) 0 (now (places .entry)) (now (places .exit)) r ⌝ }
+{
+    let mut n: usize = 0;
+    let mut j = first;
+    while j <= last {
+        n = note_if(keys[j] == k, j, n, places);
+        j += 1;
+    }
+    n
+}
+
+// Lists the right places that a left series of the key k meets, and counts them.
+pub fn met(
+    keys: &[usize],
+    k: usize,
+    first: usize,
+    last: usize,
+    falls: bool,
+    places: &mut [usize],
+) -> usize
+    requires { ⌜ length (now keys) ≤ maxSeries ⌝ }
+    requires { ⌜ KeyEnds (now keys) k first last ⌝ }
+    ensures { λ r. ⌜ NotedAll (metPlaces falls (now (keys .entry)) k) 0 (now (places .entry)) (now (places .exit)) r ⌝ }
+{
+    if first < keys.len() {
+        return places_of(keys, k, first, last, places);
+    }
+    note_if(falls, 0, 0, places)
+}

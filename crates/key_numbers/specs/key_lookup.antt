@@ -1,0 +1,4 @@
+pub mod Buckets
+pub mod Firsts
+pub mod Keys
+pub mod KeyLaws

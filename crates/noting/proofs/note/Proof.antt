@@ -1,8 +1,0 @@
--- `note` meets its contract. Assumes nothing.
-use borrow.Author.Needs.{needs}
-use Rattle.noting.proofs.Noting.{noted-full}
-use Rattle.noting.proofs.note.Statement.{statement}
-use Rattle.noting.proofs.note.Tie as tie
-
-pub note-spec : {M : Type 1} → statement M
-note-spec = tie.close (tie.spec (λ c. search needs) (λ c. search needs) (λ c. search needs) (λ c. search needs) (λ c. search noted-full))

@@ -1,8 +1,0 @@
--- `note_if` meets its contract. Assumes nothing.
-use borrow.Author.Needs.{needs}
-use Rattle.noting.proofs.Noting.{noted-here, noted-not}
-use Rattle.noting.proofs.note_if.Statement.{statement}
-use Rattle.noting.proofs.note_if.Tie as tie
-
-pub note-if-spec : {M : Type 1} → statement M
-note-if-spec = tie.close (tie.spec (λ c κs. search needs) (λ c. search needs) (λ c. search needs) (λ c. search noted-here) (λ c. search noted-not))

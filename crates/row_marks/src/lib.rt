@@ -1,0 +1,125 @@
+// The answer rows of a join: a many-side place and a one-side place as one number, the row's code; and the members behind the one-side place,
+// which leads them, as marks: eight words of 64 bits a row.
+ghost use mathlib.Core.Path.{_≡_};
+ghost use mathlib.Core.Bool.{cond};
+ghost use Prim.Native.Nat.{_+_, _*_, _≤_, _<_};
+ghost use lib.Dec.{eqb};
+ghost use lib.ListN.{length, take, drop};
+ghost use Rattle.plan.specs.Joins.{rowCode, manyPlace, onePlace};
+ghost use Rattle.row_marks.specs.Words.{unmarked, wordOf, WordsPut, RowMarked, RowsMarked};
+
+// The code of the answer row of a many-side place and a one-side place.
+pub fn row_code(m: usize, o: usize) -> usize
+    requires { ⌜ m ≤ 512 ⌝ }
+    requires { ⌜ o ≤ 512 ⌝ }
+    ensures { λ r. ⌜ r ≡ rowCode m o ⌝ }
+{
+    m * 512 + o
+}
+
+pub fn many_place(x: usize) -> usize
+    ensures { λ r. ⌜ r ≡ manyPlace x ⌝ }
+{
+    x / 512
+}
+
+pub fn one_place(x: usize) -> usize
+    ensures { λ r. ⌜ r ≡ onePlace x ⌝ }
+{
+    x % 512
+}
+
+// 1 where a lead is the place o, else 0.
+fn led_by(x: usize, o: usize) -> usize
+    ensures { λ r. ⌜ r ≡ cond (eqb x o) 1 0 ⌝ }
+{
+    if x == o {
+        return 1;
+    }
+    0
+}
+
+// The word of at most 64 leads: bit j is set where lead j is the place o.
+fn word_of(leads: &[usize], o: usize) -> usize
+    requires { ⌜ length (now leads) ≤ 64 ⌝ }
+    ensures { λ r. ⌜ r ≡ wordOf o (now (leads .entry)) ⌝ }
+{
+    let mut word: usize = 0;
+    let mut i = leads.len();
+    while 0 < i {
+        i -= 1;
+        word = word * 2 + led_by(leads[i], o);
+    }
+    word
+}
+
+// The word of the next 64 leads from a place on, or of those that are left.
+fn word_from(leads: &[usize], from: usize, o: usize) -> usize
+    requires { ⌜ from ≤ length (now leads) ⌝ }
+    ensures { λ r. ⌜ r ≡ wordOf o (take 64 (drop from (now (leads .entry)))) ⌝ }
+{
+    let left = leads.len() - from;
+    if left < 64 {
+        return word_of(&leads[from..], o);
+    }
+    let to = from + 64;
+    word_of(&leads[from..to], o)
+}
+
+// The words of the leads behind a leader, from the place `at` on. A word that the array has no room for is left out.
+fn put_words(leads: &[usize], o: usize, at: usize, marks: &mut [usize])
+    requires { ⌜ length (now leads) ≤ 512 ⌝ }
+    requires { ⌜ at ≤ 1048576 ⌝ }
+    ensures { λ _. ⌜ WordsPut (now (leads .entry)) o at (now (marks .entry)) (now (marks .exit)) ⌝ }
+{
+    let mut from: usize = 0;
+    let mut j: usize = 0;
+    while from < leads.len() {
+        index_lists::note(marks, at + j, word_from(leads, from, o));
+        j += 1;
+        from += 64;
+    }
+}
+
+// The marks of the leader o: which of the places behind it have it as their leader.
+fn mark_row(leads: &[usize], o: usize, at: usize, marks: &mut [usize])
+    requires { ⌜ length (now leads) ≤ 512 ⌝ }
+    requires { ⌜ at ≤ 1048576 ⌝ }
+    ensures { λ _. ⌜ RowMarked (now (leads .entry)) o at (now (marks .entry)) (now (marks .exit)) ⌝ }
+{
+    if o < leads.len() {
+        let behind = o + 1;
+        put_words(&leads[behind..], o, at, marks);
+    }
+}
+
+// The marks of the answer rows from n up to c, whose codes are in the list.
+pub fn mark_rows(leads: &[usize], list: &[usize], n: usize, c: usize, marks: &mut [usize])
+    requires few { ⌜ length (now leads) ≤ 512 ⌝ }
+    requires listed { ⌜ length (now list) ≤ 512 ⌝ }
+    requires order { ⌜ n ≤ c ⌝ }
+    ensures { λ _. ⌜ RowsMarked (now (leads .entry)) (now (list .entry)) n c (now (marks .entry)) (now (marks .exit)) ⌝ }
+{
+    let mut k = n;
+    while k < c {
+        if list.len() <= k {
+            return;
+        }
+        mark_row(leads, one_place(list[k]), k * 8, marks);
+        k += 1;
+    }
+}
+
+// Whether no bit of words is set.
+pub fn none_marked(marks: &[usize]) -> bool
+    ensures { λ r. ⌜ r ≡ unmarked (now (marks .entry)) ⌝ }
+{
+    let mut i: usize = 0;
+    while i < marks.len() {
+        if marks[i] != 0 {
+            return false;
+        }
+        i += 1;
+    }
+    true
+}

@@ -1,0 +1,50 @@
+-- `test_replay::holds_labels` meets its contract. Assumes nothing.
+use borrow.Author.Needs.{needs}
+use Prim.Native.Nat.{_≤_, _-_}
+use Rattle.test_replay.proofs.holds_labels.Statement.{statement}
+use Rattle.test_replay.proofs.holds_labels.Tie as tie
+
+abbrev Inv-loop : tie.InvT-loop
+Inv-loop labels want i₀ i = i ≤ 65535
+
+abbrev μ-loop : tie.MeasureT-loop
+μ-loop labels want i₀ i = 65535 - i
+
+loop-holds : tie.Need-loop-holds Inv-loop μ-loop
+loop-holds c = search needs
+
+element-copy-out-if1 : tie.Need-element-copy-out-if1 Inv-loop μ-loop
+element-copy-out-if1 c = search needs
+
+byte-or-fill-requires : tie.Need-byte-or-fill-requires Inv-loop μ-loop
+byte-or-fill-requires c κs = tt
+
+returns : tie.Need-returns Inv-loop μ-loop
+returns c = search needs
+
+add-i : tie.Need-add-i Inv-loop μ-loop
+add-i c = search needs
+
+loop-less : tie.Need-loop-less Inv-loop μ-loop
+loop-less c = search needs
+
+loop-again : tie.Need-loop-again Inv-loop μ-loop
+loop-again c = search needs
+
+returns-2 : tie.Need-returns-2 Inv-loop μ-loop
+returns-2 c = search needs
+
+pub holds-labels-spec : {M : Type 1} → statement M
+holds-labels-spec =
+    tie.close
+    (tie.spec
+    Inv-loop
+    μ-loop
+    loop-holds
+    element-copy-out-if1
+    byte-or-fill-requires
+    returns
+    add-i
+    loop-less
+    loop-again
+    returns-2)

@@ -1,1 +1,0 @@
-// Definitions and laws, in specs/. No code.

@@ -1,0 +1,88 @@
+"""The bytes of the scope document (docs/SCOPE.md), encoded: fields, lists, queries, records, sizes, vectors, and the input of `vecop`.
+
+One place for all that writes them in Python: the generators of tests/expected, `quote` and oracle/promtool.py. Nothing is checked
+here but that a number fits its bytes, so that what a call refuses can be encoded too. Integers are little-endian."""
+import struct
+
+METRIC_GROUP = b'__name__'
+MISSING = 0x7ff8000000000000
+
+OPERATORS = ('+', 'and', 'atan2', 'default', '/', '==', '%', '*', '^', '-', '>', '>=', 'if', 'ifnot', '<', '<=', '!=', 'or', 'unless')
+ADD, AND, ATAN2, DEFAULT, DIV, EQL, MOD, MUL, POW, SUB, GT, GTE, IF, IF_NOT, LT, LTE, NOT_EQ, OR, UNLESS = range(19)
+ALL, ON, IGNORING = range(3)
+ONE_TO_ONE, GROUP_LEFT, GROUP_RIGHT, MANY_TO_MANY = range(4)
+KEEP_NAMES, BOOL = 1, 2
+
+
+def field(content):
+    """A length byte and so many bytes."""
+    return bytes([len(content)]) + content
+
+
+def label_list(labels):
+    """A count byte and the labels."""
+    return bytes([len(labels)]) + b''.join(map(field, labels))
+
+
+def query(operator, matching=ALL, join=ONE_TO_ONE, flags=0, matching_list=(), join_list=()):
+    return bytes([operator, matching, join, flags]) + label_list(matching_list) + label_list(join_list)
+
+
+def tag_fields(tags):
+    """Tags, each a key and a value, in the order given."""
+    return b''.join(field(key) + field(value) for key, value in tags)
+
+
+def record(name, tags=()):
+    """The label record of a series."""
+    return field(name) + bytes([len(tags)]) + tag_fields(tags)
+
+
+def sizes(series, points, label_bytes):
+    """What a vector begins with."""
+    return struct.pack('<HHH', series, points, label_bytes)
+
+
+SIZES = len(sizes(0, 0, 0))
+
+
+def label_part(series, points, records):
+    """The sizes and the label array of a vector; as many series are stated as the first number says."""
+    array = b''.join(records)
+    return sizes(series, points, len(array)) + array
+
+
+def bits(value):
+    """The bits of a number; those of the missing reading that rules write for None and for each NaN."""
+    return MISSING if value is None or value != value else struct.unpack('<Q', struct.pack('<d', value))[0]
+
+
+def value(pattern):
+    """The number whose bits these are."""
+    return struct.unpack('<d', struct.pack('<Q', pattern))[0]
+
+
+def readings(row):
+    """Readings, each given by its bits."""
+    return struct.pack(f'<{len(row)}Q', *row)
+
+
+def vector(points, series):
+    """A whole vector of series, each given by its record and the bits of its row."""
+    rows = b''.join(readings(row) for _, row in series)
+    return label_part(len(series), points, [labels for labels, _ in series]) + rows
+
+
+def frame(*parts):
+    """The input of `vecop`: each part after its length, 4 bytes."""
+    return b''.join(struct.pack('<I', len(part)) + part for part in parts)
+
+
+def number(n):
+    """A number of the test programs' cases, 2 bytes."""
+    return struct.pack('<H', n)
+
+
+def part(content):
+    """A part of the test programs' cases: its length, a number, and its bytes."""
+    return number(len(content)) + content
