@@ -1,19 +1,17 @@
--- The answer of codes, as it fits; and that of a plan. Assumes nothing.
-use Prim.Native.Nat.{ℕ, _+_, _≤_}
-use mathlib.Core.Path.{_≡_}
-use mathlib.Core.Option.{Option}
-use mathlib.Core.List.{List, map}
+-- A rule run: its plan's clash, or the answer of its rows as they fit. Assumes nothing.
+use Prim.Native.Nat.{ℕ, _+_, _*_, _≤_, _<_}
+use mathlib.Core.Path.{_≡_, refl, sym, ap, _∙_}
+use mathlib.Core.Bool.{false}
+use mathlib.Core.List.{List, [], map}
 use native.Mathlib.Omega.{arith}
-use lib.ListN.{length, take}
-use Rattle.model.specs.Limits.{maxPoints}
+use lib.ListN.{length, getD, take}
+use lib.Seq.{length-sets, length-take-le}
+use Rattle.model.specs.Limits.{maxSeries, maxPoints}
 use Rattle.model.specs.Lists.{gather}
-use Rattle.model.specs.Query as Model
+use Rattle.model.specs.Labels.{Labels}
 use Rattle.model.specs.Vector.{Series}
-use Rattle.semantics.specs.Events.{Duplicate}
-use Rattle.semantics.specs.Binop.{allowedOverlaps}
 use Rattle.semantics.specs.Call.{fit}
-use Rattle.plan.specs.Pairs.{pairsClash, pairsFrom, pairSeries, pairsOutcome}
-use Rattle.side_parts.specs.Lent.{Sides, rowSides, BothHeld, BothRowsHeld}
+use Rattle.side_parts.specs.Lent.{Side, Sides, rowSides, ofPoints, BothHeld, BothFormed, BothRowsHeld}
 use Rattle.answers.specs.declared.Outcome.{Outcome}
 use Rattle.answers.specs.declared.Outcome.the-variants as Out
 use Rattle.answers.specs.declared.Planned.{Planned}
@@ -22,89 +20,183 @@ use Rattle.answers.specs.declared.Tally.{Tally}
 use Rattle.answers.specs.declared.Room.{Room}
 use Rattle.answers.specs.declared.Room.the-variants as Room
 use Rattle.answers.specs.Outcomes.{Ran, startingWith}
-use Rattle.answers.specs.Plans.{PlannedAs}
-use Rattle.answers.specs.Tallies.{TallyOf, RecordsPut, roomNumber, roomRefusal}
+use Rattle.answers.specs.Plans.{notedBy, upTo}
+use Rattle.answers.specs.Tallies.{recordsOf, RecordsPut, someWide, TallyOf, roomNumber, roomRefusal}
 use Rattle.answers.proofs.Concluding.{ran-too-large, ran-too-long, ran-answer}
-use Rattle.answers.proofs.Planning.{planned-left-twice, planned-right-twice, planned-codes, planned-clear, planned-answer}
-use Rattle.one_to_one.specs.pair_records.Records.{codedLabels, RecordCode}
-use Rattle.one_to_one.specs.pairs.Pairing.{pairCodes}
-use Rattle.one_to_one.specs.pair_rows.Rows.{codedRow}
-use Rattle.one_to_one.specs.Answers.{codedSeries}
-use Rattle.one_to_one.proofs.Plans.{clash-unlabelled}
-use Rattle.one_to_one.proofs.Coding.{codes-in, codes-few, codes-series}
-use Rattle.answering.specs.Codes.{RecordCodes, RowCodes}
+use Rattle.answers.proofs.Numbering.{up-long, coded-records, coded-tally}
+use Rattle.answers.proofs.Planning.{planned-left-twice, planned-right-twice, planned-too-many, planned-answer}
+use Rattle.answers.proofs.Tallies.{records-narrow, records-fit, rows-fit}
+use Rattle.answering.specs.declared.families.Rule.{Rule}
+use Rattle.answering.specs.declared.families.Rule.the-variants as R
+use Rattle.answering.specs.families.Codes.{ruleLabels, planRow, planSeries, CodeIn, RecordIn, CodesIn, RecordsIn}
+use Rattle.answering.specs.families.Plans.{ruleClash, ruleCodes, earlyCodes, ruleSeries, ruleOutcome, RulePlanned}
 
--- what both sides held are to each part
+-- sides without rows, and sides without records
+
+abbrev recordsOnly : Side → Side
+recordsOnly x = record { array = x .array; at = x .at; keys = []; rows = [] }
+
+abbrev labelledOnly : Sides → Sides
+labelledOnly s = record { shape = ofPoints 0; left = recordsOnly (s .left); right = recordsOnly (s .right) }
+
+abbrev rowsOnly : Sides → Sides
+rowsOnly s = rowSides (s .shape .points) (s .left .keys) (s .left .rows) (s .right .keys) (s .right .rows)
+
+-- records play no part in rows, nor rows in records
+
+labels-same : (rule : Rule) (first second : List ℕ) (s : Sides) → ruleLabels rule first second (labelledOnly s) ≡ ruleLabels rule first second s
+labels-same (R.Pairs q) first second s = refl
+labels-same (R.Join w) first second s = refl
+labels-same (R.Set op) first second s = refl
+
+rows-same : (rule : Rule) (s : Sides) (codes marks : List ℕ) → planRow rule (rowsOnly s) codes marks ≡ planRow rule s codes marks
+rows-same (R.Pairs q) s codes marks = refl
+rows-same (R.Join w) s codes marks = refl
+rows-same (R.Set op) s codes marks = refl
 
 module _ (s : Sides) (held : BothHeld s) where
-  pub rows-held : BothRowsHeld (rowSides (s .shape .points) (s .left .keys) (s .left .rows) (s .right .keys) (s .right .rows))
-  rows-held = record { left = held .left .rows; right = held .right .rows }
+  pub both-formed : BothFormed (labelledOnly s)
+  both-formed = record {
+    left = record { held = held .left .records; formed = held .left .formed; some = omega (arith, held .left .count) };
+    right = record { held = held .right .records; formed = held .right .formed; some = omega (arith, held .right .count) };
+  }
 
-  pub held-narrow : s .shape .points ≤ maxPoints
-  held-narrow = held .left .rows .narrow
+  pub both-rows : BothRowsHeld (rowsOnly s)
+  both-rows = record { left = held .left .rows; right = held .right .rows }
 
-  module _ (codes : List ℕ) (w : RowCodes s codes) where
-    pub row-codes : RowCodes (rowSides (s .shape .points) (s .left .keys) (s .left .rows) (s .right .keys) (s .right .rows)) codes
-    row-codes = record { few = w .few; each = λ r h. record { left = w .each r h .left; right = w .each r h .right } }
+  record-in : (rule : Rule) (c : ℕ) → CodeIn rule s c → RecordIn rule (labelledOnly s) c
+  record-in (R.Pairs q) c k = record { place = omega (arith, k .left, held .left .count) }
+  record-in (R.Join w) c k = record {
+    held = both-formed;
+    many = omega (arith, k .many, held .left .count);
+    one = omega (arith, k .one, held .right .count);
+  }
+  record-in (R.Set op) c k = record { below = omega (arith, k .below, held .left .count, held .right .count) }
 
-    pub record-codes : RecordCodes (s .left .at) codes
-    record-codes = record { few = w .few; each = λ r h. record { place = omega (arith, w .each r h .left, held .left .count) } }
+  code-in : (rule : Rule) (c : ℕ) → CodeIn rule s c → CodeIn rule (rowsOnly s) c
+  code-in (R.Pairs q) c k = record { left = k .left; right = k .right }
+  code-in (R.Join w) c k = record { many = k .many; one = k .one }
+  code-in (R.Set op) c k = record { below = k .below }
 
--- by the room
+-- the plan carried out
 
-module _ (q : Model.Query) (s : Sides) (held : BothHeld s) (codes : List ℕ) (w : RowCodes s codes) (labels₀ out₀ : List ℕ) (t : Tally)
-    (tally : TallyOf (codedLabels q (s .left .array) (s .left .at)) codes t)
-    (room : Room) (asked : roomNumber room ≡ roomRefusal (length codes) (s .shape .points) t (length labels₀) (length out₀)) where
-  pub answer-too-large : room ≡ Room.TooLarge
-      → Ran (fit (length labels₀) (length out₀) (s .shape) (map (codedSeries q s) codes)) labels₀ out₀ labels₀ out₀ Out.TooLarge
-  answer-too-large h = ran-too-large (s .shape) labels₀ out₀ (codedSeries q s) codes (w .few) t tally room asked h
+module _ (rule : Rule) (first second : List ℕ) (s : Sides) (held : BothHeld s) (before codes marks : List ℕ) (r : Planned)
+    (w : RulePlanned rule first second s before codes marks r) (long : length before ≡ maxSeries) where
+  module _ (labels₀ out₀ : List ℕ) where
+    pub run-left-twice : (kept failed : ℕ) → r ≡ P.LeftTwice kept failed
+        → Ran (ruleOutcome rule first second (length labels₀) (length out₀) s) labels₀ out₀ labels₀ out₀ (Out.LeftTwice kept failed)
+    run-left-twice kept failed h =
+        planned-left-twice (ruleClash rule first second s) (ruleCodes rule first second s) (earlyCodes rule first second s) before codes r (w .planned)
+        (s .shape) (ruleSeries rule first second s) labels₀ out₀ kept failed h
 
-  pub answer-too-long : room ≡ Room.TooLong
-      → Ran (fit (length labels₀) (length out₀) (s .shape) (map (codedSeries q s) codes)) labels₀ out₀ labels₀ out₀ Out.TooLong
-  answer-too-long h = ran-too-long (s .shape) labels₀ out₀ (codedSeries q s) codes (w .few) t tally room asked h
-
-  pub answer-put : room ≡ Room.Fits → (bytes : ℕ) (labels out : List ℕ)
-      → RecordsPut (codedLabels q (s .left .array) (s .left .at)) codes labels₀ labels bytes → (allowance : ℕ) → allowance ≡ allowedOverlaps q
-      → out ≡ startingWith (gather (codedRow (q .operator) (q .bool) allowance s) codes) out₀
-      → Ran (fit (length labels₀) (length out₀) (s .shape) (map (codedSeries q s) codes)) labels₀ out₀ labels out
-      (Out.Answer (length codes) (s .shape .points) bytes)
-  answer-put h bytes labels out r allowance a e =
-      ran-answer (s .shape) labels₀ out₀ (codedSeries q s) codes (w .few) t tally room asked h bytes (r .bytes) labels out (r .out)
-      (rw a at e)
-
--- a plan of one-to-one, made without the records
-
-module _ (q : Model.Query) (s : Sides) (held : BothHeld s) (list : List ℕ) (r : Planned) (allowance : ℕ) (a : allowance ≡ allowedOverlaps q)
-    (planned :
-    PlannedAs
-    (pairsClash allowance (rowSides (s .shape .points) (s .left .keys) (s .left .rows) (s .right .keys) (s .right .rows)) 0 (s .left .keys))
-    (pairCodes s) list r) where
-  abbrev clashes : Option Duplicate
-  clashes = pairsClash (allowedOverlaps q) s 0 (s .left .keys)
-
-  told : PlannedAs (pairsClash (allowedOverlaps q) s 0 (s .left .keys)) (pairCodes s) list r
-  told = rw (clash-unlabelled allowance s 0 (s .left .keys), a) at planned
-
-  abbrev series : List Series
-  series = map (pairSeries q s) (pairsFrom (s .left .keys) (s .right .keys) 0 (s .left .keys))
-
-  pub plan-left-twice : (kept failed : ℕ) → r ≡ P.LeftTwice kept failed → (labels₀ out₀ : List ℕ)
-      → Ran (pairsOutcome q (length labels₀) (length out₀) s) labels₀ out₀ labels₀ out₀ (Out.LeftTwice kept failed)
-  plan-left-twice kept failed h labels₀ out₀ = planned-left-twice clashes (pairCodes s) list r told (s .shape) series labels₀ out₀ kept failed h
-
-  pub plan-right-twice : (kept failed : ℕ) → r ≡ P.RightTwice kept failed → (labels₀ out₀ : List ℕ)
-      → Ran (pairsOutcome q (length labels₀) (length out₀) s) labels₀ out₀ labels₀ out₀ (Out.RightTwice kept failed)
-  plan-right-twice kept failed h labels₀ out₀ = planned-right-twice clashes (pairCodes s) list r told (s .shape) series labels₀ out₀ kept failed h
+    pub run-right-twice : (kept failed : ℕ) → r ≡ P.RightTwice kept failed
+        → Ran (ruleOutcome rule first second (length labels₀) (length out₀) s) labels₀ out₀ labels₀ out₀ (Out.RightTwice kept failed)
+    run-right-twice kept failed h =
+        planned-right-twice (ruleClash rule first second s) (ruleCodes rule first second s) (earlyCodes rule first second s) before codes r (w .planned)
+        (s .shape) (ruleSeries rule first second s) labels₀ out₀ kept failed h
 
   module _ (n : ℕ) (h : r ≡ P.Rows n) where
-    pub plan-codes : RowCodes s (take n list)
-    plan-codes =
-        rw (planned-codes clashes (pairCodes s) list r told n h)
-        (record { few = omega (arith, codes-few s held, held .left .rows .few); each = codes-in s held })
+    pub run-many : (labels₀ out₀ : List ℕ) → maxSeries < n
+        → Ran (ruleOutcome rule first second (length labels₀) (length out₀) s) labels₀ out₀ labels₀ out₀ Out.TooLarge
+    run-many labels₀ out₀ many =
+        planned-too-many (ruleClash rule first second s) (ruleCodes rule first second s) (earlyCodes rule first second s) before codes r (w .planned)
+        n h (s .shape) (ruleSeries rule first second s) labels₀ out₀ (w .count n h) many
 
-    pub plan-answer : (labels₀ out₀ labels out : List ℕ) (x : Outcome)
-        → Ran (fit (length labels₀) (length out₀) (s .shape) (map (codedSeries q s) (take n list))) labels₀ out₀ labels out x
-        → Ran (pairsOutcome q (length labels₀) (length out₀) s) labels₀ out₀ labels out x
-    plan-answer labels₀ out₀ labels out x ran =
-        planned-answer clashes (pairCodes s) list r told n h (s .shape) (codedSeries q s) series labels₀ out₀ labels out x
-        (codes-series s held q (planned-clear clashes (pairCodes s) list r told n h)) ran
+    module _ (few : n ≤ maxSeries) where
+      codes-long : length codes ≡ maxSeries
+      codes-long =
+          ap length (w .planned .list)
+          ∙ length-sets before 0 (notedBy (ruleClash rule first second s) (ruleCodes rule first second s) (earlyCodes rule first second s)) ∙ long
+
+      pub codes-within : n ≤ length codes
+      codes-within = omega (arith, few, codes-long)
+
+      front : length (take n codes) ≡ n
+      front = length-take-le n codes codes-within
+
+      pub codes-front : n ≡ length (take n codes)
+      codes-front = sym front
+
+      pub codes-in : CodesIn rule (rowsOnly s) (take n codes)
+      codes-in = record {
+        few = rw front few;
+        each = λ k l. code-in s held rule (getD (take n codes) k 0) (w .inside n h few k (omega (arith, l, front)));
+      }
+
+      pub records-in : RecordsIn rule (labelledOnly s) (take n codes)
+      records-in = record {
+        few = rw front few;
+        each = λ k l. record-in s held rule (getD (take n codes) k 0) (w .inside n h few k (omega (arith, l, front)));
+      }
+
+      pub marks-enough : length (take n codes) * 8 ≤ length marks
+      marks-enough = omega (arith, front, few, w .marks-long)
+
+      -- by the room
+
+      abbrev series : ℕ → Series
+      series = planSeries rule first second s (take n codes) marks
+
+      abbrev rows : List ℕ
+      rows = upTo (length (take n codes))
+
+      rows-few : length rows ≤ maxSeries
+      rows-few = omega (arith, up-long 0 (length (take n codes)), front, few)
+
+      stands : (labels₀ out₀ labels out : List ℕ) (x : Outcome) → Ran (fit (length labels₀) (length out₀) (s .shape)
+          (map series rows)) labels₀ out₀ labels out x
+          → Ran (ruleOutcome rule first second (length labels₀) (length out₀) s) labels₀ out₀ labels out x
+      stands labels₀ out₀ labels out x ran =
+          planned-answer (ruleClash rule first second s) (ruleCodes rule first second s) (earlyCodes rule first second s) before codes r (w .planned)
+          n h (s .shape) series rows (ruleSeries rule first second s) labels₀ out₀ labels out x
+          (rw front (w .series n h few)) ran
+
+      module _ (labels₀ out₀ : List ℕ) (t : Tally) (tally : TallyOf (ruleLabels rule first second (labelledOnly s)) (take n codes) t)
+          (room : Room) (asked : roomNumber room ≡ roomRefusal n (s .shape .points) t (length labels₀) (length out₀)) where
+        tally-here : TallyOf (ruleLabels rule first second s) (take n codes) t
+        tally-here = rw (labels-same rule first second s) at tally
+
+        by-number : TallyOf (λ k. series k .labels) rows t
+        by-number = coded-tally (ruleLabels rule first second s) (take n codes) t tally-here
+
+        as-asked : roomNumber room ≡ roomRefusal (length rows) (s .shape .points) t (length labels₀) (length out₀)
+        as-asked = rw (up-long 0 (length (take n codes)), front) asked
+
+        pub run-large : room ≡ Room.TooLarge
+            → Ran (ruleOutcome rule first second (length labels₀) (length out₀) s) labels₀ out₀ labels₀ out₀ Out.TooLarge
+        run-large e = stands labels₀ out₀ labels₀ out₀ Out.TooLarge
+            (ran-too-large (s .shape) labels₀ out₀ series rows rows-few t by-number room as-asked e)
+
+        pub run-long : room ≡ Room.TooLong
+            → Ran (ruleOutcome rule first second (length labels₀) (length out₀) s) labels₀ out₀ labels₀ out₀ Out.TooLong
+        run-long e = stands labels₀ out₀ labels₀ out₀ Out.TooLong
+            (ran-too-long (s .shape) labels₀ out₀ series rows rows-few t by-number room as-asked e)
+
+        module _ (e : room ≡ Room.Fits) where
+          pub rows-room : length (take n codes) * s .shape .points ≤ length out₀
+          rows-room = rw front (rows-fit n (s .shape .points) t (length labels₀) (length out₀) room asked e)
+
+          pub none-wide : someWide (ruleLabels rule first second (labelledOnly s)) (take n codes) ≡ false
+          none-wide =
+              records-narrow n (s .shape .points) t (length labels₀) (length out₀) room asked e (ruleLabels rule first second (labelledOnly s))
+              (take n codes) tally
+
+          pub records-room : length (recordsOf (ruleLabels rule first second (labelledOnly s)) (take n codes)) ≤ length labels₀
+          records-room =
+              records-fit n (s .shape .points) t (length labels₀) (length out₀) room asked e (ruleLabels rule first second (labelledOnly s))
+              (take n codes) tally
+
+          pub run-answer : (bytes : ℕ) (labels out : List ℕ)
+              → RecordsPut (ruleLabels rule first second (labelledOnly s)) (take n codes) labels₀ labels bytes
+              → out ≡ startingWith (gather (planRow rule (rowsOnly s) (take n codes) marks) (upTo (length (take n codes)))) out₀
+              → Ran (ruleOutcome rule first second (length labels₀) (length out₀) s) labels₀ out₀ labels out
+              (Out.Answer n (record { points = s .shape .points }) bytes)
+          run-answer bytes labels out put made =
+              let here : RecordsPut (ruleLabels rule first second s) (take n codes) labels₀ labels bytes = rw (labels-same rule first second s) at put in
+              let same = coded-records (ruleLabels rule first second s) (take n codes) in
+              let count : length rows ≡ n = up-long 0 (length (take n codes)) ∙ front in
+              stands labels₀ out₀ labels out (Out.Answer n (record { points = s .shape .points }) bytes)
+              (rw count at
+              (ran-answer (s .shape) labels₀ out₀ series rows rows-few t by-number room as-asked e bytes (here .bytes ∙ ap length same) labels out
+              (here .out ∙ ap (λ x. startingWith x labels₀) same)
+              (rw (rows-same rule s (take n codes) marks) at made)))

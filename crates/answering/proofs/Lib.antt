@@ -1,3 +1,3 @@
-pub mod Rows
 pub mod Records
+pub mod Rows
 pub mod Answers

@@ -1,155 +1,133 @@
-// An answer made from a plan: its rows, known by their codes, are tallied, their room is tested, then they are written.
+// The driver of every family: the answer's rows are planned, their records tallied and their room tested; then they are written. Nothing is
+// written before, so a refusal leaves the output parts as they were.
+mod families; // a rule's plan, and the record and the row of a code, each by a match
+
 use answers::Outcome;
 use answers::Planned;
 use answers::Room;
 use answers::Tally;
+pub use families::Rule;
 use operator::Operator;
-use query::Query;
+use side_parts::Shape;
 ghost use mathlib.Core.Path.{_≡_};
-ghost use mathlib.Core.List.{map};
+ghost use mathlib.Core.Bool.{false};
 ghost use Prim.Native.Nat.{ℕ, _*_, _≤_};
 ghost use lib.ListN.{length};
 ghost use Rattle.model.specs.Lists.{gather};
 ghost use Rattle.model.specs.Labels.{Labels};
-ghost use Rattle.semantics.specs.Call.{fit};
-ghost use Rattle.plan.specs.Pairs.{pairsOutcome};
-ghost use Rattle.side_parts.specs.Lent.{Sides, sides, RecordsHeld, BothHeld, unlabelled, BothRowsHeld, ofPoints};
+ghost use Rattle.side_parts.specs.Lent.{Sides, sides, shapeOf, lent, labelled, unlabelled, BothHeld, BothFormed, BothRowsHeld};
 ghost use Rattle.answers.specs.Outcomes.{Ran, startingWith};
-ghost use Rattle.answers.specs.Tallies.{TallyOf, recordsOf, RecordsPut};
-ghost use Rattle.one_to_one.specs.adjusted_labels.Edits.{pairQuery};
-ghost use Rattle.one_to_one.specs.pair_records.Records.{codedLabels};
-ghost use Rattle.one_to_one.specs.pair_rows.Rows.{codedRow};
-ghost use Rattle.one_to_one.specs.Answers.{codedSeries};
-ghost use Rattle.answering.specs.Codes.{RecordCodes, RowCodes};
+ghost use Rattle.answers.specs.Tallies.{TallyOf, recordsOf, RecordsPut, someWide};
+ghost use Rattle.answers.specs.Plans.{upTo};
+ghost use Rattle.answering.specs.families.Codes.{ruleLabels, planRow, RecordsIn, CodesIn};
+ghost use Rattle.answering.specs.families.Plans.{ruleOutcome};
 
 // What the records of codes come to.
-fn tally(q: Query, names: &[u8], array: &[u8], at: &[usize], codes: &[usize]) -> Tally
-    requires { ⌜ RecordsHeld (now array) (now at) ⌝ }
-    requires { ⌜ RecordCodes (now at) (now codes) ⌝ }
-    ensures { λ r. ⌜ TallyOf (codedLabels (pairQuery (now (names .entry)) q) (now (array .entry)) (now (at .entry))) (now (codes .entry)) r ⌝ }
+fn tally(
+    rule: Rule,
+    lists: [&[u8]; 2],
+    labels: [&[u8]; 2],
+    at: [&[usize]; 2],
+    codes: &[usize],
+) -> Tally
+    ghost { Sides }
+    requires { λ s. ⌜ labelled labels at ≡ s ⌝ }
+    requires { λ s. ⌜ BothFormed s ⌝ }
+    requires { λ s. ⌜ RecordsIn rule s (now codes) ⌝ }
+    ensures { λ s r. ⌜ TallyOf (ruleLabels rule (lent (lists .entry) 0) (lent (lists .entry) 1) s) (now (codes .entry)) r ⌝ }
 {
     let mut t = Tally {
         bytes: 0,
         too_many_tags: false,
     };
-    let mut r: usize = 0;
-    while r < codes.len() {
-        t = answers::tallied(
-            t,
-            one_to_one::pair_record_size(q, names, array, at, codes[r]),
-        );
-        r += 1;
+    let mut k: usize = 0;
+    while k < codes.len() {
+        t = answers::tallied(t, families::record_size(rule, lists, labels, at, codes[k]));
+        k += 1;
     }
     t
 }
 
 // Writes the records of codes one behind another, and gives their bytes.
 fn put_records(
-    q: Query,
-    names: &[u8],
-    array: &[u8],
-    at: &[usize],
+    rule: Rule,
+    lists: [&[u8]; 2],
+    labels: [&[u8]; 2],
+    at: [&[usize]; 2],
     codes: &[usize],
     out: &mut [u8],
 ) -> usize
-    ghost { ℕ → Labels }
-    requires { λ l. ⌜ codedLabels (pairQuery (now names) q) (now array) (now at) ≡ l ⌝ }
-    requires { λ l. ⌜ RecordsHeld (now array) (now at) ⌝ }
-    requires { λ l. ⌜ RecordCodes (now at) (now codes) ⌝ }
-    requires { λ l. ⌜ length (recordsOf l (now codes)) ≤ length (now out) ⌝ }
-    ensures { λ l r. ⌜ RecordsPut l (now (codes .entry)) (now (out .entry)) (now (out .exit)) r ⌝ }
+    ghost { Sides }
+    requires { λ s. ⌜ labelled labels at ≡ s ⌝ }
+    requires { λ s. ⌜ BothFormed s ⌝ }
+    requires { λ s. ⌜ RecordsIn rule s (now codes) ⌝ }
+    requires { λ s. ⌜ someWide (ruleLabels rule (lent lists 0) (lent lists 1) s) (now codes) ≡ false ⌝ }
+    requires { λ s. ⌜ length (recordsOf (ruleLabels rule (lent lists 0) (lent lists 1) s) (now codes)) ≤ length (now out) ⌝ }
+    ensures { λ s r. ⌜
+        RecordsPut (ruleLabels rule (lent (lists .entry) 0) (lent (lists .entry) 1) s) (now (codes .entry)) (now (out .entry))
+        (now (out .exit)) r
+        ⌝ }
 {
     let mut o: usize = 0;
-    let mut r: usize = 0;
-    while r < codes.len() {
-        o = one_to_one::put_pair_record(q, names, array, at, codes[r], out, o);
-        r += 1;
+    let mut k: usize = 0;
+    while k < codes.len() {
+        o = families::put_record(rule, lists, labels, at, codes[k], out, o);
+        k += 1;
     }
     o
 }
 
-// Writes the rows of codes, each into its own part.
+// Writes the rows of codes, each into its own part. Work rows are made here, once a call.
 fn put_rows(
-    op: Operator,
-    as_bool: bool,
-    allowance: usize,
+    rule: Rule,
     p: usize,
     keys: [&[usize]; 2],
     rows: [&[u64]; 2],
     codes: &[usize],
+    marks: &[usize],
     out: &mut [u64],
 )
     ghost { Sides }
     requires { λ s. ⌜ unlabelled p keys rows ≡ s ⌝ }
     requires { λ s. ⌜ BothRowsHeld s ⌝ }
-    requires { λ s. ⌜ RowCodes s (now codes) ⌝ }
+    requires { λ s. ⌜ CodesIn rule s (now codes) ⌝ }
+    requires { λ s. ⌜ length (now codes) * 8 ≤ length (now marks) ⌝ }
     requires { λ s. ⌜ length (now codes) * p ≤ length (now out) ⌝ }
-    ensures { λ s _. ⌜ now (out .exit) ≡ startingWith (gather (codedRow op «as_bool» allowance s) (now (codes .entry))) (now (out .entry)) ⌝ }
-{
-    let mut r: usize = 0;
-    while r < codes.len() {
-        let from = r * p;
-        let to = from + p;
-        one_to_one::put_pair_row(
-            op,
-            as_bool,
-            allowance,
-            keys,
-            rows,
-            codes[r],
-            &mut out[from..to],
-        );
-        r += 1;
-    }
-}
-
-// The answer of codes, written where it fits.
-fn answer(
-    q: Query,
-    names: &[u8],
-    p: usize,
-    labels: [&[u8]; 2],
-    at: [&[usize]; 2],
-    keys: [&[usize]; 2],
-    rows: [&[u64]; 2],
-    codes: &[usize],
-    out_labels: &mut [u8],
-    out: &mut [u64],
-) -> Outcome
-    ghost { Sides }
-    requires { λ s. ⌜ sides (ofPoints p) labels at keys rows ≡ s ⌝ }
-    requires { λ s. ⌜ BothHeld s ⌝ }
-    requires { λ s. ⌜ RowCodes s (now codes) ⌝ }
-    ensures { λ s r. ⌜
-        Ran
-        (fit (length (now («out_labels» .entry))) (length (now (out .entry))) (s .shape)
-        (map (codedSeries (pairQuery (now (names .entry)) q) s) (now (codes .entry))))
-        (now («out_labels» .entry)) (now (out .entry)) (now («out_labels» .exit)) (now (out .exit)) r
+    ensures { λ s _. ⌜
+        now (out .exit) ≡ startingWith
+        (gather (planRow rule s (now (codes .entry)) (now (marks .entry))) (upTo (length (now (codes .entry)))))
+        (now (out .entry))
         ⌝ }
 {
-    let op = q.operator;
-    let allowance = query::allowed_overlaps(q);
-    let t = tally(q, names, labels[0], at[0], codes);
-    match answers::room_for(codes.len(), p, t, out_labels.len(), out.len()) {
-        Room::TooLarge => Outcome::TooLarge,
-        Room::TooLong => Outcome::TooLong,
-        Room::Fits => {
-            put_rows(op, q.bool, allowance, p, keys, rows, codes, out);
-            let bytes = put_records(q, names, labels[0], at[0], codes, out_labels);
-            Outcome::Answer {
-                series: codes.len(),
-                points: p,
-                bytes,
-            }
-        }
+    let mut left_work = [0u64; 1024];
+    let mut right_work = [0u64; 1024];
+    let mut places = [0usize; 512];
+    let mut k: usize = 0;
+    while k < codes.len() {
+        let first = k * 8;
+        let last = first + 8;
+        let from = k * p;
+        let to = from + p;
+        families::put_row(
+            rule,
+            keys,
+            rows,
+            codes[k],
+            &marks[first..last],
+            &mut left_work,
+            &mut right_work,
+            &mut places,
+            &mut out[from..to],
+        );
+        k += 1;
     }
 }
 
-// Runs a one-to-one query on two sides with their key numbers: planned first, then answered.
-pub fn run_pairs(
-    q: Query,
-    names: &[u8],
-    p: usize,
+// Runs a rule on two sides with their key numbers.
+pub fn run(
+    rule: Rule,
+    lists: [&[u8]; 2],
+    shape: Shape,
     labels: [&[u8]; 2],
     at: [&[usize]; 2],
     keys: [&[usize]; 2],
@@ -158,29 +136,48 @@ pub fn run_pairs(
     out: &mut [u64],
 ) -> Outcome
     ghost { Sides }
-    requires { λ s. ⌜ sides (ofPoints p) labels at keys rows ≡ s ⌝ }
+    requires { λ s. ⌜ sides (shapeOf shape) labels at keys rows ≡ s ⌝ }
     requires { λ s. ⌜ BothHeld s ⌝ }
     ensures { λ s r. ⌜
-        Ran (pairsOutcome (pairQuery (now (names .entry)) q) (length (now («out_labels» .entry))) (length (now (out .entry))) s)
+        Ran
+        (ruleOutcome rule (lent (lists .entry) 0) (lent (lists .entry) 1) (length (now («out_labels» .entry)))
+        (length (now (out .entry))) s)
         (now («out_labels» .entry)) (now (out .entry)) (now («out_labels» .exit)) (now (out .exit)) r
         ⌝ }
 {
     let mut codes = [0usize; 512];
-    let allowance = query::allowed_overlaps(q);
-    match one_to_one::plan_pairs(allowance, p, keys, rows, &mut codes) {
+    let mut marks = [0usize; 4096];
+    match families::plan(
+        rule,
+        lists,
+        shape,
+        labels,
+        at,
+        keys,
+        rows,
+        &mut codes,
+        &mut marks,
+    ) {
         Planned::LeftTwice { kept, failed } => Outcome::LeftTwice { kept, failed },
         Planned::RightTwice { kept, failed } => Outcome::RightTwice { kept, failed },
-        Planned::Rows(n) => answer(
-            q,
-            names,
-            p,
-            labels,
-            at,
-            keys,
-            rows,
-            &codes[..n],
-            out_labels,
-            out,
-        ),
+        Planned::Rows(n) => {
+            if Operator::MAX_SERIES < n {
+                return Outcome::TooLarge;
+            }
+            let t = tally(rule, lists, labels, at, &codes[..n]);
+            match answers::room_for(n, shape.points, t, out_labels.len(), out.len()) {
+                Room::TooLarge => Outcome::TooLarge,
+                Room::TooLong => Outcome::TooLong,
+                Room::Fits => {
+                    put_rows(rule, shape.points, keys, rows, &codes[..n], &marks, out);
+                    let bytes = put_records(rule, lists, labels, at, &codes[..n], out_labels);
+                    Outcome::Answer {
+                        series: n,
+                        shape,
+                        bytes,
+                    }
+                }
+            }
+        }
     }
 }

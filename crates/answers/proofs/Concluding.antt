@@ -125,6 +125,6 @@ module _ (shape : Shape) (labels₀ out₀ : List ℕ) where
         → (labels out : List ℕ) → labels ≡ startingWith (recordsOf (λ x. S x .labels) rows) labels₀
         → out ≡ startingWith (gather (λ x. S x .row) rows) out₀
         → Ran (fit (length labels₀) (length out₀) shape (map S rows)) labels₀ out₀ labels out
-        (Out.Answer (length rows) (shape .points) bytes)
+        (Out.Answer (length rows) (record { points = shape .points }) bytes)
     ran-answer h bytes k labels out a b =
         rw (fits-as, h) (record { outcome = rw k; labelPart = a; readingPart = b })

@@ -3,4 +3,5 @@ pub mod Writing
 pub mod Rows
 pub mod Concluding
 pub mod Planning
+pub mod Numbering
 pub mod Telling

@@ -5,22 +5,23 @@ use mathlib.Core.List.{List, _++_}
 use lib.ListN.{length, drop}
 use Rattle.semantics.specs.Call as Call
 use Rattle.semantics.specs.Call.{refused, answered}
+use Rattle.side_parts.specs.declared.Shape.{Shape}
 use Rattle.answers.specs.declared.Told.{Told}
 use Rattle.answers.specs.declared.Told.the-variants as T
 use Rattle.answers.specs.declared.Outcome.{Outcome}
 use Rattle.answers.specs.declared.Outcome.the-variants.{Answer, BadOperator, Malformed, Cut, BadKey, Readings, Unequal, LeftTwice, RightTwice}
 use Rattle.answers.specs.declared.Outcome.the-variants.{TooLarge, TooLong}
 
--- an answer's series, points and label bytes; or a refusal's number and fields
-abbrev pub answer : ℕ → ℕ → ℕ → Told
-answer series points bytes = T.Answer series points bytes
+-- an answer's series, shape and label bytes; or a refusal's number and fields
+abbrev pub answer : ℕ → Shape → ℕ → Told
+answer series shape bytes = T.Answer series shape bytes
 
 abbrev pub refusal : ℕ → ℕ → ℕ → Told
 refusal number first second = T.Refusal number first second
 
 -- 01: A refusal has its number and two fields, 0 if not named.
 abbrev pub told : Outcome → Told
-told (Answer series points bytes) = answer series points bytes
+told (Answer series shape bytes) = answer series shape bytes
 told BadOperator = refusal 1 0 0
 told Malformed = refusal 2 0 0
 told (Cut side place) = refusal 3 side place
@@ -34,7 +35,7 @@ told TooLong = refusal 10 0 0
 
 abbrev pub wanted : Call.Outcome → Told
 wanted (refused n a b) = refusal n a b
-wanted (answered n p x y) = answer n p (length x)
+wanted (answered n p x y) = answer n (record { points = p }) (length x)
 
 -- 01: An answer changes only its own length at the start of each output part; what lies behind it stays.
 abbrev pub startingWith : List ℕ → List ℕ → List ℕ

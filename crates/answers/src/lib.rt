@@ -1,6 +1,7 @@
 // What the answers of all operators share: their outcome, what they take and whether it fits, and a row copied.
 use kept_labels::Size;
 use operator::Operator;
+use side_parts::Shape;
 ghost use mathlib.Core.Path.{_≡_};
 ghost use Prim.Native.Nat.{_+_, _*_, _≤_, _<_};
 ghost use lib.ListN.{length};
@@ -12,7 +13,7 @@ ghost use Rattle.answers.specs.Tallies.{withSize, roomNumber, roomRefusa
 pub enum Outcome {
     Answer {
         series: usize,
-        points: usize,
+        shape: Shape,
         bytes: usize,
     },
     BadOperator,
@@ -45,7 +46,7 @@ pub enum Outcome {
 pub enum Told {
     Answer {
         series: usize,
-        points: usize,
+        shape: Shape,
         bytes: usize,
     },
     Refusal {
@@ -72,11 +73,11 @@ pub fn told_as(x: Outcome) -> Told
     match x {
         Outcome::Answer {
             series,
-            points,
+            shape,
             bytes,
         } => Told::Answer {
             series,
-            points,
+            shape,
             bytes,
         },
         Outcome::BadOperator => refusal(1, 0, 0),

@@ -32,7 +32,7 @@ use Rattle.answers.specs.Outcomes.{Ran, told, refusal}
 use Rattle.operator.specs.Kinds.{kindOf}
 use Rattle.labels.specs.Names.{namesOf}
 use Rattle.labels.specs.Matchings.{matchingOf}
-use Rattle.side_parts.specs.Lent.{Sides, BothHeld, ofPoints}
+use Rattle.side_parts.specs.Lent.{Sides, BothHeld}
 use Rattle.keyed_sides.specs.Keyed.{dropsMissing, KeysKept, SidesKeyed, withKeys, kept-keyed-by}
 use Rattle.keyed_sides.specs.TakenSides.{TakenSide, lentVector, Took}
 use Rattle.binop_vector_vector.specs.dispatch.Runs.{Asked, ranTaken}
@@ -52,7 +52,7 @@ module _ (side : ℕ) (t : Taken) where
 
 -- a vector is not refused
 pub fault-none : (t : Taken) {A : Type 0} → 0 < takenNumber t → tagOf taken-type t ≡ 0 → A
-fault-none (T.Vector n p) h e = absurd (omega (arith, h))
+fault-none (T.Vector n shape) h e = absurd (omega (arith, h))
 fault-none (T.Cut i) h e = absurd (omega (arith, e))
 fault-none (T.BadKey i) h e = absurd (omega (arith, e))
 fault-none T.Readings h e = absurd (omega (arith, e))
@@ -113,7 +113,7 @@ module _ (s : List ℕ) (r : Request) (h : TakenAs s (Model.takeQuery s) r) wher
 -- a side that is refused, or taken, and what follows
 
 pub taken-number : (t : Taken) → OneOf (1 ∷ 2 ∷ 3 ∷ []) (tagOf taken-type t) → 0 < takenNumber t
-taken-number (T.Vector n p) h = absurd (not-zero h)
+taken-number (T.Vector n shape) h = absurd (not-zero h)
   where
     not-zero : OneOf (1 ∷ 2 ∷ 3 ∷ []) 0 → ⊥
     not-zero (inl e) = omega (arith, e)
@@ -129,54 +129,55 @@ module _ (side : ℕ) (s x : List ℕ) (f : Vector → Call.Outcome) (labels₀ 
   ran-fault before after t into y n e =
       rw (taken-refused side s x t (into .answer) n) (record { outcome = e; labelPart = refl; readingPart = refl })
 
-  pub ran-taken : (after : List ℕ) (n p : ℕ) → Took side s x after n p → (d o : List ℕ) (y : Outcome)
-      → Ran (f (lentVector p (take (length s - sizesLength) (drop sizesLength s)) (take (n + 1) after) x)) labels₀ out₀ d o y
+  pub ran-taken : (after : List ℕ) (n : ℕ) (shape : Shape) → Took side s x after n shape → (d o : List ℕ) (y : Outcome)
+      → Ran (f (lentVector shape (take (length s - sizesLength) (drop sizesLength s)) (take (n + 1) after) x)) labels₀ out₀ d o y
       → Ran (onVector (takeVector side s x) f) labels₀ out₀ d o y
-  ran-taken after n p took d o y k = rw (took .vector) k
+  ran-taken after n shape took d o y k = rw (took .vector) k
 
 -- 01: 6, the sides' p differ
-module _ (q : Model.Query) (p : ℕ) (array at rows : List ℕ) (points : ℕ) (array′ at′ rows′ labels₀ out₀ : List ℕ) where
+module _ (q : Model.Query) (shape : Shape) (array at rows : List ℕ) (other : Shape) (array′ at′ rows′ labels₀ out₀ : List ℕ) where
   abbrev runs : Call.Outcome
-  runs = running (length labels₀) (length out₀) q (lentVector p array at rows) (lentVector points array′ at′ rows′)
+  runs = running (length labels₀) (length out₀) q (lentVector shape array at rows) (lentVector other array′ at′ rows′)
 
-  ran-unequal : (points ≡ p → ⊥) → Ran runs labels₀ out₀ labels₀ out₀ Out.Unequal
+  ran-unequal : (other .points ≡ shape .points → ⊥) → Ran runs labels₀ out₀ labels₀ out₀ Out.Unequal
   unfolding running
-  ran-unequal h = rw (ne-eqb p points (λ e. h (sym e))) (record { outcome = refl; labelPart = refl; readingPart = refl })
+  ran-unequal h = rw (ne-eqb (shape .points) (other .points) (λ e. h (sym e))) (record { outcome = refl; labelPart = refl; readingPart = refl })
 
-  ran-equal : points ≡ p → (d o : List ℕ) (y : Outcome)
-      → Ran (ranTaken q p array at rows array′ at′ rows′ (length labels₀) (length out₀)) labels₀ out₀ d o y → Ran runs labels₀ out₀ d o y
+  ran-equal : other .points ≡ shape .points → (d o : List ℕ) (y : Outcome)
+      → Ran (ranTaken q shape array at rows array′ at′ rows′ (length labels₀) (length out₀)) labels₀ out₀ d o y → Ran runs labels₀ out₀ d o y
   unfolding running
-  ran-equal e d o y k = rw (e, eq-eqb p p refl) k
+  ran-equal e d o y k = rw (e, eq-eqb (shape .points) (shape .points) refl) k
 
 -- both sides taken
-module _ (s x after : List ℕ) (n p : ℕ) (l : Took 0 s x after n p) (s′ x′ after′ : List ℕ) (n′ p′ : ℕ) (r : Took 1 s′ x′ after′ n′ p′)
+module _ (s x after : List ℕ) (n : ℕ) (shape : Shape) (l : Took 0 s x after n shape)
+    (s′ x′ after′ : List ℕ) (n′ : ℕ) (other : Shape) (r : Took 1 s′ x′ after′ n′ other)
     (q : Model.Query) (labels₀ out₀ : List ℕ) where
   abbrev lefts : Vector
-  lefts = lentVector p (take (length s - sizesLength) (drop sizesLength s)) (take (n + 1) after) x
+  lefts = lentVector shape (take (length s - sizesLength) (drop sizesLength s)) (take (n + 1) after) x
 
   abbrev rights : Vector
-  rights = lentVector p′ (take (length s′ - sizesLength) (drop sizesLength s′)) (take (n′ + 1) after′) x′
+  rights = lentVector other (take (length s′ - sizesLength) (drop sizesLength s′)) (take (n′ + 1) after′) x′
 
   ran-both : (d o : List ℕ) (y : Outcome) → Ran (running (length labels₀) (length out₀) q lefts rights) labels₀ out₀ d o y
       → Ran (leftStage q s x s′ x′ (length labels₀) (length out₀)) labels₀ out₀ d o y
   ran-both d o y k =
-      ran-taken 0 s x (λ v. rightStage q v s′ x′ (length labels₀) (length out₀)) labels₀ out₀ after n p l d o y
-      (ran-taken 1 s′ x′ (λ v. running (length labels₀) (length out₀) q lefts v) labels₀ out₀ after′ n′ p′ r d o y k)
+      ran-taken 0 s x (λ v. rightStage q v s′ x′ (length labels₀) (length out₀)) labels₀ out₀ after n shape l d o y
+      (ran-taken 1 s′ x′ (λ v. running (length labels₀) (length out₀) q lefts v) labels₀ out₀ after′ n′ other r d o y k)
 
-  pub ran-apart : (p′ ≡ p → ⊥) → Ran (leftStage q s x s′ x′ (length labels₀) (length out₀)) labels₀ out₀ labels₀ out₀ Out.Unequal
+  pub ran-apart : (other .points ≡ shape .points → ⊥) → Ran (leftStage q s x s′ x′ (length labels₀) (length out₀)) labels₀ out₀ labels₀ out₀ Out.Unequal
   ran-apart h =
       ran-both labels₀ out₀ Out.Unequal
-      (ran-unequal q p (take (length s - sizesLength) (drop sizesLength s)) (take (n + 1) after) x p′
+      (ran-unequal q shape (take (length s - sizesLength) (drop sizesLength s)) (take (n + 1) after) x other
       (take (length s′ - sizesLength) (drop sizesLength s′)) (take (n′ + 1) after′) x′ labels₀ out₀ h)
 
-  pub ran-alike : p′ ≡ p → (d o : List ℕ) (y : Outcome)
-      → Ran (ranTaken q p (take (length s - sizesLength) (drop sizesLength s)) (take (n + 1) after) x
+  pub ran-alike : other .points ≡ shape .points → (d o : List ℕ) (y : Outcome)
+      → Ran (ranTaken q shape (take (length s - sizesLength) (drop sizesLength s)) (take (n + 1) after) x
       (take (length s′ - sizesLength) (drop sizesLength s′)) (take (n′ + 1) after′) x′
       (length labels₀) (length out₀)) labels₀ out₀ d o y
       → Ran (leftStage q s x s′ x′ (length labels₀) (length out₀)) labels₀ out₀ d o y
   ran-alike h d o y k =
       ran-both d o y
-      (ran-equal q p (take (length s - sizesLength) (drop sizesLength s)) (take (n + 1) after) x p′
+      (ran-equal q shape (take (length s - sizesLength) (drop sizesLength s)) (take (n + 1) after) x other
       (take (length s′ - sizesLength) (drop sizesLength s′)) (take (n′ + 1) after′) x′ labels₀ out₀ h d o y k)
 
 -- on the points of the other side
@@ -195,16 +196,17 @@ pub side-few : (p : ℕ) (array at rows : List ℕ) → TakenSide p array at row
 side-few p array at rows t = omega (arith, t .few)
 
 -- both sides, with any numbers for keys
-pub run-held : (p : ℕ) (array at rows array′ at′ rows′ work work′ : List ℕ) → TakenSide p array at rows → TakenSide p array′ at′ rows′
+pub run-held : (shape : Shape) (array at rows array′ at′ rows′ work work′ : List ℕ) → TakenSide (shape .points) array at rows
+    → TakenSide (shape .points) array′ at′ rows′
     → length work ≡ 512 → length work′ ≡ 512
     → BothHeld (record {
-      shape = ofPoints p;
+      shape = shape;
       left = record { array = array; at = at; keys = take (length at - 1) work; rows = rows };
       right = record { array = array′; at = at′; keys = take (length at′ - 1) work′; rows = rows′ };
     })
-run-held p array at rows array′ at′ rows′ work work′ l r e e′ = record {
-  left = l .held (take (length at - 1) work) (front-count p array at rows work l e);
-  right = r .held (take (length at′ - 1) work′) (front-count p array′ at′ rows′ work′ r e′);
+run-held shape array at rows array′ at′ rows′ work work′ l r e e′ = record {
+  left = l .held (take (length at - 1) work) (front-count (shape .points) array at rows work l e);
+  right = r .held (take (length at′ - 1) work′) (front-count (shape .points) array′ at′ rows′ work′ r e′);
 }
 
 module _ (s : List ℕ) (q : Query) (x : Sides) (b : BothHeld x) (d d′ : List ℕ)

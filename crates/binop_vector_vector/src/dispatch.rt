@@ -1,19 +1,20 @@
-// The rule of an operator over both sides: a set operator by its own, arithmetic and comparisons by the join.
+// The rule that a query asks for, run over both sides.
+use answering::Rule;
 use answers::Outcome;
-use joins::Work;
+use join_series::Work;
 use labels::Matching;
 use query::Join;
 use query::Query;
+use side_parts::Shape;
 ghost use mathlib.Core.Path.{_≡_};
-ghost use mathlib.Core.Bool.{Bool, false};
+ghost use mathlib.Core.Bool.{Bool};
 ghost use lib.ListN.{length};
 ghost use Rattle.operator.specs.Kinds.{kindOf};
-ghost use Rattle.operator.specs.Operators.{isLogicalOp};
 ghost use Rattle.labels.specs.Names.{namesOf};
 ghost use Rattle.labels.specs.Matchings.{matchingOf};
 ghost use Rattle.query.specs.Queries.{queryOf};
 ghost use Rattle.semantics.specs.Binop.{skipList};
-ghost use Rattle.side_parts.specs.Lent.{Sides, sides, BothHeld, ofPoints};
+ghost use Rattle.side_parts.specs.Lent.{Sides, sides, BothHeld, shapeOf};
 ghost use Rattle.answers.specs.Outcomes.{Ran};
 ghost use Rattle.keyed_sides.specs.Keyed.{dropsMissing, SidesKeyed};
 ghost use Rattle.binop_vector_vector.specs.dispatch.Runs.{Asked, sidesWith, ranSides};
@@ -38,7 +39,7 @@ fn work_of(q: Query, left: bool, join: &[u8], skip: &[u8]) -> Work
     let reset = query::should_reset_metric_group(q);
     Work {
         operator,
-        bool: q.bool,
+        as_bool: q.as_bool,
         left,
         naming: set_tags::naming_of(join, skip, reset),
         allowance: query::allowed_overlaps(q),
@@ -50,7 +51,7 @@ fn run_group(
     query: &[u8],
     q: Query,
     left: bool,
-    p: usize,
+    shape: Shape,
     labels: [&[u8]; 2],
     at: [&[usize]; 2],
     keys: [&[usize]; 2],
@@ -59,7 +60,7 @@ fn run_group(
     out: &mut [u64],
 ) -> Outcome
     ghost { Sides }
-    requires { λ s. ⌜ sides (ofPoints p) labels at keys rows ≡ s ⌝ }
+    requires { λ s. ⌜ sides (shapeOf shape) labels at keys rows ≡ s ⌝ }
     requires { λ s. ⌜ Asked (now query) q ⌝ }
     requires { λ s. ⌜ BothHeld s ⌝ }
     ensures { λ s r. ⌜
@@ -71,60 +72,25 @@ fn run_group(
     let matching = q.matching;
     let skip = skip_list(matching, &query[4..to]);
     let join = &query[to..];
-    let w = work_of(q, left, join, skip);
-    joins::group_join(w, p, labels, at, keys, rows, join, skip, out_labels, out)
+    let rule = Rule::Join(work_of(q, left, join, skip));
+    answering::run(
+        rule,
+        [join, skip],
+        shape,
+        labels,
+        at,
+        keys,
+        rows,
+        out_labels,
+        out,
+    )
 }
 
-// Arithmetic and comparisons: by the join.
-fn run_matched(
-    query: &[u8],
-    q: Query,
-    p: usize,
-    labels: [&[u8]; 2],
-    at: [&[usize]; 2],
-    keys: [&[usize]; 2],
-    rows: [&[u64]; 2],
-    out_labels: &mut [u8],
-    out: &mut [u64],
-) -> Outcome
-    ghost { Sides }
-    requires { λ s. ⌜ sides (ofPoints p) labels at keys rows ≡ s ⌝ }
-    requires { λ s. ⌜ Asked (now query) q ⌝ }
-    requires { λ s. ⌜ isLogicalOp (q .operator) ≡ false ⌝ }
-    requires { λ s. ⌜ SidesKeyed (queryOf (now query) q) (dropsMissing (kindOf (q .operator))) s ⌝ }
-    ensures { λ s r. ⌜
-        Ran (ranSides (queryOf (now (query .entry)) q) s (length (now («out_labels» .entry))) (length (now (out .entry))))
-        (now («out_labels» .entry)) (now (out .entry)) (now («out_labels» .exit)) (now (out .exit)) r
-        ⌝ }
-{
-    let to = q.join_at;
-    let join = q.join;
-    match join {
-        Join::OneToOne => {
-            let names = &query[4..to];
-            answering::run_pairs(q, names, p, labels, at, keys, rows, out_labels, out)
-        }
-        Join::GroupLeft => run_group(query, q, true, p, labels, at, keys, rows, out_labels, out),
-        Join::GroupRight => run_group(
-            query,
-            q,
-            false,
-            p,
-            [labels[1], labels[0]],
-            [at[1], at[0]],
-            [keys[1], keys[0]],
-            [rows[1], rows[0]],
-            out_labels,
-            out,
-        ),
-    }
-}
-
-// The keys are numbered.
+// The keys are numbered: a set operator by its own rule, arithmetic and comparisons by the join.
 pub(crate) fn run_keyed<'a>(
     query: &[u8],
     q: Query,
-    p: usize,
+    shape: Shape,
     labels: [&[u8]; 2],
     at: [&[usize]; 2],
     left_keys: &'a [usize],
@@ -134,7 +100,7 @@ pub(crate) fn run_keyed<'a>(
     out: &mut [u64],
 ) -> Outcome
     ghost { Sides }
-    requires { λ s. ⌜ sidesWith (ofPoints p) labels at (now «left_keys») (now «right_keys») rows ≡ s ⌝ }
+    requires { λ s. ⌜ sidesWith (shapeOf shape) labels at (now «left_keys») (now «right_keys») rows ≡ s ⌝ }
     requires { λ s. ⌜ Asked (now query) q ⌝ }
     requires { λ s. ⌜ SidesKeyed (queryOf (now query) q) (dropsMissing (kindOf (q .operator))) s ⌝ }
     ensures { λ s r. ⌜
@@ -144,8 +110,61 @@ pub(crate) fn run_keyed<'a>(
 {
     let operator = q.operator;
     let keys = [left_keys, right_keys];
+    let to = q.join_at;
+    let join = q.join;
+    let names = &query[4..to];
     if operator.is_logical_op() {
-        return set_rules::run_set(operator, p, labels, at, keys, rows, out_labels, out);
+        let rule = Rule::Set(operator);
+        return answering::run(
+            rule,
+            [names, names],
+            shape,
+            labels,
+            at,
+            keys,
+            rows,
+            out_labels,
+            out,
+        );
     }
-    run_matched(query, q, p, labels, at, keys, rows, out_labels, out)
+    match join {
+        Join::OneToOne => {
+            let rule = Rule::Pairs(q);
+            answering::run(
+                rule,
+                [names, names],
+                shape,
+                labels,
+                at,
+                keys,
+                rows,
+                out_labels,
+                out,
+            )
+        }
+        Join::GroupLeft => run_group(
+            query,
+            q,
+            true,
+            shape,
+            labels,
+            at,
+            keys,
+            rows,
+            out_labels,
+            out,
+        ),
+        Join::GroupRight => run_group(
+            query,
+            q,
+            false,
+            shape,
+            [labels[1], labels[0]],
+            [at[1], at[0]],
+            [keys[1], keys[0]],
+            [rows[1], rows[0]],
+            out_labels,
+            out,
+        ),
+    }
 }

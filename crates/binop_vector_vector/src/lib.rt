@@ -6,6 +6,7 @@ use labels::Matching;
 use operator::Operator;
 use query::Query;
 use query::Request;
+use side_parts::Shape;
 use timeseries::Taken;
 ghost use mathlib.Core.Path.{_≡_};
 ghost use Prim.Native.Nat.{_<_};
@@ -15,7 +16,7 @@ ghost use Rattle.labels.specs.Names.{namesOf};
 ghost use Rattle.labels.specs.Matchings.{matchingOf};
 ghost use Rattle.query.specs.Queries.{queryOf, requestNumber};
 ghost use Rattle.semantics.specs.Call.{call};
-ghost use Rattle.side_parts.specs.Lent.{Sides, lent, BothHeld, ofPoints};
+ghost use Rattle.side_parts.specs.Lent.{Sides, lent, BothHeld, shapeOf};
 ghost use Rattle.timeseries.specs.Takes.{takenNumber, takenPlace};
 ghost use Rattle.answers.specs.Outcomes.{Ran, told, refusal};
 ghost use Rattle.keyed_sides.specs.TakenSides.{TakenSide};
@@ -45,7 +46,7 @@ fn fault_of(side: usize, taken: Taken) -> Outcome
         Taken::Readings => Outcome::Readings { side },
         Taken::Vector {
             series: _,
-            points: _,
+            shape: _,
         } => Outcome::Unequal,
     }
 }
@@ -55,7 +56,7 @@ fn number_kept(
     op: Operator,
     matching: Matching,
     names: &[u8],
-    p: usize,
+    shape: Shape,
     labels: [&[u8]; 2],
     at: [&[usize]; 2],
     rows: [&[u64]; 2],
@@ -63,7 +64,7 @@ fn number_kept(
     right_keys: &mut [usize],
 )
     ghost { Sides }
-    requires { λ s. ⌜ sidesWith (ofPoints p) labels at (now «left_keys») (now «right_keys») rows ≡ s ⌝ }
+    requires { λ s. ⌜ sidesWith (shapeOf shape) labels at (now «left_keys») (now «right_keys») rows ≡ s ⌝ }
     requires { λ s. ⌜ BothHeld s ⌝ }
     ensures { λ s _. ⌜
         KeysKept (matchingOf matching) (namesOf (now (names .entry))) (dropsMissing (kindOf op)) s (now («left_keys» .exit))
@@ -71,14 +72,14 @@ fn number_kept(
         ⌝ }
 {
     keyed_sides::number_keys(matching, names, labels, at, left_keys, right_keys);
-    keyed_sides::drop_for(op, p, rows, left_keys, right_keys);
+    keyed_sides::drop_for(op, shape.points, rows, left_keys, right_keys);
 }
 
-// Both sides are taken and have the same points: numbers their keys.
+// Both sides are taken on one shape: numbers their keys.
 fn run<'a>(
     query: &[u8],
     q: Query,
-    p: usize,
+    shape: Shape,
     labels: [&[u8]; 2],
     left_at: &'a [usize],
     right_at: &'a [usize],
@@ -87,12 +88,12 @@ fn run<'a>(
     out: &mut [u64],
 ) -> Outcome
     requires { ⌜ Asked (now query) q ⌝ }
-    requires { ⌜ TakenSide p (lent labels 0) (now «left_at») (lent rows 0) ⌝ }
-    requires { ⌜ TakenSide p (lent labels 1) (now «right_at») (lent rows 1) ⌝ }
+    requires { ⌜ TakenSide (shape .points) (lent labels 0) (now «left_at») (lent rows 0) ⌝ }
+    requires { ⌜ TakenSide (shape .points) (lent labels 1) (now «right_at») (lent rows 1) ⌝ }
     ensures { λ r. ⌜
         Ran
-        (ranTaken (queryOf (now (query .entry)) q) p (lent (labels .entry) 0) (now («left_at» .entry)) (lent (rows .entry) 0)
-        (lent (labels .entry) 1) (now («right_at» .entry)) (lent (rows .entry) 1) (length (now («out_labels» .entry)))
+        (ranTaken (queryOf (now (query .entry)) q) (shapeOf shape) (lent (labels .entry) 0) (now («left_at» .entry))
+        (lent (rows .entry) 0) (lent (labels .entry) 1) (now («right_at» .entry)) (lent (rows .entry) 1) (length (now («out_labels» .entry)))
         (length (now (out .entry))))
         (now («out_labels» .entry)) (now (out .entry)) (now («out_labels» .exit)) (now (out .exit)) r
         ⌝ }
@@ -108,7 +109,7 @@ fn run<'a>(
         operator,
         matching,
         &query[4..to],
-        p,
+        shape,
         labels,
         [left_at, right_at],
         rows,
@@ -118,7 +119,7 @@ fn run<'a>(
     dispatch::run_keyed(
         query,
         q,
-        p,
+        shape,
         labels,
         [left_at, right_at],
         &left_keys[..n],
@@ -152,23 +153,19 @@ pub fn exec_binop<'a>(
     };
     let mut left_at = [0usize; 513];
     let l = timeseries::take_vector(left_labels, left, &mut left_at);
-    let Taken::Vector {
-        series: n,
-        points: p,
-    } = l
-    else {
+    let Taken::Vector { series: n, shape } = l else {
         return fault_of(0, l);
     };
     let mut right_at = [0usize; 513];
     let r = timeseries::take_vector(right_labels, right, &mut right_at);
     let Taken::Vector {
         series: m,
-        points: points,
+        shape: other,
     } = r
     else {
         return fault_of(1, r);
     };
-    if points != p {
+    if other.points != shape.points {
         return Outcome::Unequal;
     }
     let e = n + 1;
@@ -176,7 +173,7 @@ pub fn exec_binop<'a>(
     run(
         query,
         q,
-        p,
+        shape,
         [
             &left_labels[Operator::SIZES_LENGTH..],
             &right_labels[Operator::SIZES_LENGTH..],

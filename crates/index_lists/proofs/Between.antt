@@ -3,12 +3,10 @@ use Prim.Native.Nat.{ℕ, zero, suc, _+_, _≤_, _<_}
 use mathlib.Core.Path.{_≡_, refl, _∙_}
 use mathlib.Core.Bool.{cond}
 use mathlib.Core.List.{List, [], _∷_}
-use native.Mathlib.Numerals.{add-one}
 use native.Mathlib.Nat.{zero-add, add-zero, add-suc, suc-add}
 use native.Mathlib.Omega.{arith}
 use lib.Dec.{eqb}
 use lib.ListN.{length, drop}
-use lib.Seq.{drop-drop}
 use Rattle.model.specs.Lists.{cases}
 use Rattle.plan.specs.Keys.{firstOf, lastFrom, lastOf}
 use Rattle.plan.specs.Sets.{placesOf}
@@ -61,17 +59,3 @@ module _ (k : ℕ) where
 
   pub behind-last : (keys : List ℕ) (j : ℕ) → lastOf keys k < j → placesOf k j (drop j keys) ≡ []
   behind-last keys j h = rw (zero-add j) at (none-from j keys (length keys) 0 (omega (arith, h)))
-
-  -- where they are one place, there is no other
-
-  one-most : (i : ℕ) (xs : List ℕ) → placesOf k (i + 1) (drop 1 xs) ≡ [] → length (placesOf k i xs) ≤ 1
-  unfolding placesOf
-  one-most i [] e = omega arith
-  one-most i (x ∷ xs) e =
-      let none : placesOf k (suc i) xs ≡ [] = rw (add-one i) at e in
-      cases (eqb x k) (λ t. rw (t, none) (omega arith)) (λ t. rw (t, none) (omega arith))
-
-  pub one-place : (keys : List ℕ) → lastOf keys k ≤ firstOf keys k → length (placesOf k 0 keys) ≤ 1
-  one-place keys h =
-      let none = behind-last keys (firstOf keys k + 1) (omega (arith, h)) in
-      rw (from-first keys) (one-most (firstOf keys k) (drop (firstOf keys k) keys) (rw (drop-drop 1 (firstOf keys k) keys) none))

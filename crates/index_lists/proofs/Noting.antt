@@ -1,4 +1,4 @@
--- Numbers noted in an array: one where a test holds, and the places of a key. Assumes nothing.
+-- Numbers noted in an array: one where a test holds, and the places of a key in a list. Assumes nothing.
 use Prim.Native.Nat.{ℕ, _+_, _≤_, _<_}
 use mathlib.Core.Path.{_≡_, refl, sym, ap, _∙_}
 use mathlib.Core.Bool.{Bool, true, false, cond}
@@ -7,12 +7,10 @@ use native.Mathlib.Numerals.{add-one}
 use native.Mathlib.Nat.{zero-add}
 use native.Mathlib.Omega.{arith}
 use lib.Dec.{eqb}
-use lib.ListN.{length, getD, take, drop, set}
+use lib.ListN.{length, getD, take, drop, set, drop-of-length-le}
 use lib.Seq.{drop-cons, set-out, sets, sets-eq, length-sets, take-at}
-use Rattle.plan.specs.Keys.{KeyEnds}
 use Rattle.plan.specs.Sets.{placesOf}
 use Rattle.index_lists.specs.Places.{NotedIf, NotedAll}
-use Rattle.index_lists.proofs.Between.{from-first, behind-last}
 
 -- one number
 
@@ -57,37 +55,42 @@ pub noted-front : (xs before after : List ℕ) (r : ℕ) → NotedAll xs 0 befor
 noted-front xs before after r h few =
     rw (h .count, h .content, zero-add (length xs), sets-eq xs before 0 (omega arith)) (take-at xs (drop (0 + length xs) before) (length xs) refl)
 
--- the places of a key
+-- the places of a key in a list, from the place `first` on
 
-pub record Gathering (keys : List ℕ) (k : ℕ) (before : List ℕ) (n j : ℕ) (places : List ℕ) : Type 0 where
+pub record Gathering (xs : List ℕ) (k first : ℕ) (before : List ℕ) (n j : ℕ) (places : List ℕ) : Type 0 where
   pub few : n ≤ j
-  pub noting : Noting (placesOf k 0 keys) 0 before (placesOf k j (drop j keys)) n places
+  pub noting : Noting (placesOf k first (drop first xs)) 0 before (placesOf k j (drop j xs)) n places
 
-module _ (keys : List ℕ) (k first last : ℕ) (ends : KeyEnds keys k first last) (before : List ℕ) where
-  pub gather-starts : Gathering keys k before 0 first before
-  gather-starts = record { few = omega arith; noting = rw (ends .first-place, ← from-first k keys) (noting-starts (placesOf k 0 keys) 0 before) }
+module _ (xs : List ℕ) (k first : ℕ) (before : List ℕ) where
+  abbrev all : List ℕ
+  all = placesOf k first (drop first xs)
 
-  module _ (n j : ℕ) (places : List ℕ) (g : Gathering keys k before n j places) where
-    module _ (h : j < length keys) where
+  pub gather-starts : Gathering xs k first before 0 first before
+  gather-starts = record { few = omega arith; noting = noting-starts all 0 before }
+
+  module _ (n j : ℕ) (places : List ℕ) (g : Gathering xs k first before n j places) where
+    module _ (h : j < length xs) where
       abbrev behind : List ℕ
-      behind = placesOf k (j + 1) (drop (j + 1) keys)
+      behind = placesOf k (j + 1) (drop (j + 1) xs)
 
-      next : placesOf k j (drop j keys) ≡ cond (eqb (getD keys j 0) k) (j ∷ behind) behind
+      next : placesOf k j (drop j xs) ≡ cond (eqb (getD xs j 0) k) (j ∷ behind) behind
       unfolding placesOf
-      next = rw (drop-cons keys j 0 h, add-one)
+      next = rw (drop-cons xs j 0 h, add-one)
 
       few-more : (b : Bool) (later : List ℕ) (r : ℕ) → NotedIf b j n places later r → r ≤ j + 1
       few-more true later r p = omega (arith, g .few, p .count)
       few-more false later r p = omega (arith, g .few, p .count)
 
-      pub gather-turn : (later : List ℕ) (r : ℕ) → NotedIf (eqb (getD keys j 0) k) j n places later r → Gathering keys k before r (j + 1) later
+      pub gather-turn : (later : List ℕ) (r : ℕ) → NotedIf (eqb (getD xs j 0) k) j n places later r
+          → Gathering xs k first before r (j + 1) later
       gather-turn later r p = record {
-        few = few-more (eqb (getD keys j 0) k) later r p;
-        noting = noting-turn (placesOf k 0 keys) 0 before (eqb (getD keys j 0) k) j n places later behind r (rw next at (g .noting)) p;
+        few = few-more (eqb (getD xs j 0) k) later r p;
+        noting = noting-turn all 0 before (eqb (getD xs j 0) k) j n places later behind r (rw next at (g .noting)) p;
       }
 
     pub gather-length : length places ≡ length before
-    gather-length = noting-length (placesOf k 0 keys) 0 before (placesOf k j (drop j keys)) n places (g .noting)
+    gather-length = noting-length all 0 before (placesOf k j (drop j xs)) n places (g .noting)
 
-    pub gather-ends : last < j → NotedAll (placesOf k 0 keys) 0 before places n
-    gather-ends h = noting-ends (placesOf k 0 keys) 0 before n places (rw (behind-last k keys j (rw (← ends .last-place) h)) at (g .noting))
+    pub gather-ends : length xs ≤ j → NotedAll all 0 before places n
+    unfolding placesOf
+    gather-ends h = noting-ends all 0 before n places (rw (drop-of-length-le xs h) at (g .noting))

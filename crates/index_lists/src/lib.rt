@@ -3,9 +3,7 @@ ghost use mathlib.Core.Path.{_≡_};
 ghost use Prim.Native.Nat.{_+_, _≤_, _<_};
 ghost use lib.ListN.{length, set};
 ghost use Rattle.model.specs.Limits.{maxSeries};
-ghost use Rattle.plan.specs.Keys.{KeyEnds};
-ghost use Rattle.plan.specs.Sets.{placesOf, metPlaces};
-ghost use Rattle.index_lists.specs.Places.{NotedIf, NotedAll};
+ghost use Rattle.index_lists.specs.Places.{NotedIf, NotedAll, codedMet};
 
 // Writes a number at the place n of a list, unless the list is full.
 pub fn note(list: &mut [usize], n: usize, x: usize)
@@ -28,13 +26,17 @@ pub fn note_if(here: bool, x: usize, n: usize, list: &mut [usize]) -> usize
     n
 }
 
-// Lists the places of a key that stands somewhere, from its first to its last, and counts them.
-fn places_of(keys: &[usize], k: usize, first: usize, last: usize, places: &mut [usize]) -> usize
+// Lists the places from `first` to `last` that have the key of `last`, and counts them: none where `last` is no place.
+pub fn met(keys: &[usize], first: usize, last: usize, places: &mut [usize]) -> usize
     requires { ⌜ length (now keys) ≤ maxSeries ⌝ }
-    requires { ⌜ KeyEnds (now keys) k first last ⌝ }
-    requires { ⌜ last < length (now keys) ⌝ }
-    ensures { λ r. ⌜ NotedAll (placesOf k 0 (now (keys .entry))) 0 (now (places .entry)) (now (places .exit)) r ⌝ }
+    ensures { λ r. ⌜
+        NotedAll (codedMet (now (keys .entry)) first last) 0 (now (places .entry)) (now (places .exit)) r
+        ⌝ }
 {
+    if keys.len() <= last {
+        return 0;
+    }
+    let k = keys[last];
     let mut n: usize = 0;
     let mut j = first;
     while j <= last {
@@ -42,23 +44,4 @@ fn places_of(keys: &[usize], k: usize, first: usize, last: usize, places: &mut [
         j += 1;
     }
     n
-}
-
-// Lists the right places that a left series of the key k meets, and counts them.
-pub fn met(
-    keys: &[usize],
-    k: usize,
-    first: usize,
-    last: usize,
-    falls: bool,
-    places: &mut [usize],
-) -> usize
-    requires { ⌜ length (now keys) ≤ maxSeries ⌝ }
-    requires { ⌜ KeyEnds (now keys) k first last ⌝ }
-    ensures { λ r. ⌜ NotedAll (metPlaces falls (now (keys .entry)) k) 0 (now (places .entry)) (now (places .exit)) r ⌝ }
-{
-    if first < keys.len() {
-        return places_of(keys, k, first, last, places);
-    }
-    note_if(falls, 0, 0, places)
 }

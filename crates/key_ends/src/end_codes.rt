@@ -20,7 +20,7 @@ pub(crate) fn side_code(first: usize, last: usize) -> usize
 }
 
 // The codes of the two sides, as one number.
-pub(crate) fn both_code(left: usize, right: usize) -> usize
+pub fn both_code(left: usize, right: usize) -> usize
     requires { ⌜ left < codes ⌝ }
     requires { ⌜ right < codes ⌝ }
     ensures { λ r. ⌜ r ≡ bothCode left right ⌝ }

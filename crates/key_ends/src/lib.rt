@@ -2,6 +2,7 @@
 mod end_codes; // the first and the last places of a key in one number, read off it
 mod key_places; // the first and the last place of a key, by a search
 
+pub use end_codes::both_code;
 pub use end_codes::left_first;
 pub use end_codes::left_last;
 pub use end_codes::right_first;

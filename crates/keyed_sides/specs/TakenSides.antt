@@ -16,7 +16,8 @@ use Rattle.model.specs.Laws.Vector.{taken-is}
 use Rattle.record_tags.specs.Lenient.{labelsOf, labels-encoded}
 use Rattle.side_parts.specs.Sides.{recordAt, lentSeries}
 use Rattle.side_parts.specs.SideLaws.{record-starts}
-use Rattle.side_parts.specs.Lent.{Held, ofPoints}
+use Rattle.side_parts.specs.declared.Shape as Code
+use Rattle.side_parts.specs.Lent.{Held, shapeOf}
 use Rattle.timeseries.specs.declared.Taken.{Taken}
 use Rattle.timeseries.specs.declared.Taken.the-variants as T
 use Rattle.timeseries.specs.Takes.{TakenInto}
@@ -30,9 +31,9 @@ pub record TakenSide (p : ℕ) (array at rows : List ℕ) : Type 0 where
   pub few : length at ≤ maxSeries + 1
   pub held : (keys : List ℕ) → length at ≡ length keys + 1 → Held p (record { array = array; at = at; keys = keys; rows = rows })
 
--- the vector that it is
-abbrev pub lentVector : ℕ → List ℕ → List ℕ → List ℕ → Vector
-lentVector p array at rows = record { shape = ofPoints p; series = lentSeries array at p rows }
+-- the vector that it is, on its shape
+abbrev pub lentVector : Shape → List ℕ → List ℕ → List ℕ → Vector
+lentVector shape array at rows = record { shape = shape; series = lentSeries array at (shape .points) rows }
 
 -- numbers of a width are bytes, or readings
 
@@ -59,14 +60,14 @@ labels-again : (l : Labels) → labelsOf (encode l) ≡ l
 labels-again l = ap labelsOf (sym (append-nil (encode l))) ∙ labels-encoded l []
 
 -- what taking leaves of a side
-module _ (side : ℕ) (s x after : List ℕ) (n p : ℕ) (t : SideTaken side s x after n p) where
+module _ (side : ℕ) (s x after : List ℕ) (n : ℕ) (shape : Shape) (t : SideTaken side s x after n shape) where
   abbrev at : List ℕ
   at = take (n + 1) after
 
-  pub lent-vector : takeVector side s x ≡ vector (lentVector p (drop sizesLength s) (take (n + 1) after) x)
+  pub lent-vector : takeVector side s x ≡ vector (lentVector shape (drop sizesLength s) (take (n + 1) after) x)
   lent-vector =
-      let shape : t .v .shape ≡ ofPoints p = λ i. record { points = t .points i } in
-      let whole : t .v ≡ lentVector p (drop sizesLength s) (take (n + 1) after) x = λ i. record { shape = shape i; series = sym (t .series) i } in
+      let whole : t .v ≡ lentVector shape (drop sizesLength s) (take (n + 1) after) x =
+      λ i. record { shape = t .on i; series = sym (t .series) i } in
       t .taken ∙ ap vector whole
 
   module _ (bytes : Bytes s) (words : Readings x) where
@@ -77,7 +78,7 @@ module _ (side : ℕ) (s x after : List ℕ) (n p : ℕ) (t : SideTaken side s x
     labels-is : (i : ℕ) → i < n → labelsOf (recordAt (drop sizesLength s) at i) ≡ getD (t .v .series) i noSeries .labels
     labels-is i h = ap labelsOf (record-is i h) ∙ labels-again (getD (t .v .series) i noSeries .labels)
 
-    pub taken-side : TakenSide p (drop sizesLength s) (take (n + 1) after) x
+    pub taken-side : TakenSide (shape .points) (drop sizesLength s) (take (n + 1) after) x
     taken-side =
         let is = taken-is side s x (t .v) bytes words (t .taken) in
         record {
@@ -100,14 +101,14 @@ module _ (side : ℕ) (s x after : List ℕ) (n p : ℕ) (t : SideTaken side s x
         }
 
 -- a side that is taken from a label part s and readings x, its n + 1 positions at the start of `after`: what a caller needs of it
-pub record Took (side : ℕ) (s x after : List ℕ) (n p : ℕ) : Type 0 where
+pub record Took (side : ℕ) (s x after : List ℕ) (n : ℕ) (shape : Shape) : Type 0 where
   pub few : n ≤ maxSeries
   pub fits : Fits w64 (n + 1)
   pub entries : n + 1 ≤ length after
   pub lent : n + 1 ≡ length (take (n + 1) after)
   pub sizes : sizesLength ≤ length s
-  pub held : TakenSide p (take (length s - sizesLength) (drop sizesLength s)) (take (n + 1) after) x
-  pub vector : takeVector side s x ≡ vector (lentVector p (take (length s - sizesLength) (drop sizesLength s)) (take (n + 1) after) x)
+  pub held : TakenSide (shape .points) (take (length s - sizesLength) (drop sizesLength s)) (take (n + 1) after) x
+  pub vector : takeVector side s x ≡ vector (lentVector shape (take (length s - sizesLength) (drop sizesLength s)) (take (n + 1) after) x)
 
 part-long : (shape : Shape) (ss : List Series) → sizesLength ≤ length (labelPart shape ss)
 unfolding labelPart
@@ -117,11 +118,11 @@ behind-sizes : (s : List ℕ) → take (length s - sizesLength) (drop sizesLengt
 behind-sizes s = take-all (length s - sizesLength) (drop sizesLength s) (omega (arith, length-drop sizesLength s))
 
 module _ (side : ℕ) (s x before after : List ℕ) (t : Taken) (into : TakenInto s x before t after) (room : length before ≡ maxSeries + 1)
-    (n p : ℕ) (e : t ≡ T.Vector n p) where
-  taken-so : SideTaken side s x after n p
-  taken-so = side-taken side s x before after room t into n p e
+    (n : ℕ) (shape : Code.Shape) (e : t ≡ T.Vector n shape) where
+  taken-so : SideTaken side s x after n (shapeOf shape)
+  taken-so = side-taken side s x before after room t into n shape e
 
-  pub took : ((j : ℕ) → Fits w8 (getD s j 0)) → ((j : ℕ) → Fits w64 (getD x j 0)) → Took side s x after n p
+  pub took : ((j : ℕ) → Fits w8 (getD s j 0)) → ((j : ℕ) → Fits w64 (getD x j 0)) → Took side s x after n (shapeOf shape)
   took bytes words =
       let few : n ≤ maxSeries = taken-so .few in
       let is = taken-is side s x (taken-so .v) (bytes-of s bytes) (readings-of x words) (taken-so .taken) in
@@ -131,6 +132,6 @@ module _ (side : ℕ) (s x before after : List ℕ) (t : Taken) (into : TakenInt
         entries = omega (arith, few, taken-long s x before after t into, room);
         lent = sym (taken-so .entries);
         sizes = rw (is .labels) (part-long (taken-so .v .shape) (taken-so .v .series));
-        held = rw (behind-sizes s) (taken-side side s x after n p taken-so (bytes-of s bytes) (readings-of x words));
-        vector = rw (behind-sizes s) (lent-vector side s x after n p taken-so);
+        held = rw (behind-sizes s) (taken-side side s x after n (shapeOf shape) taken-so (bytes-of s bytes) (readings-of x words));
+        vector = rw (behind-sizes s) (lent-vector side s x after n (shapeOf shape) taken-so);
       }

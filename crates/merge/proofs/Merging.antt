@@ -2,13 +2,13 @@
 use mathlib.Core.Path.{_≡_, refl, sym, _∙_}
 use mathlib.Core.Bool.{Bool, true, false, not, cond, _||_}
 use mathlib.Core.Option.{none, some}
-use mathlib.Core.List.{List, [], _∷_, _++_, append-nil}
+use mathlib.Core.List.{List, _++_, append-nil}
 use Prim.Native.Nat.{ℕ, suc, _+_, _-_, _≤_, _<_}
 use native.Mathlib.Nat.{le-refl}
 use native.Mathlib.Numerals.{add-one}
 use native.Mathlib.Omega.{arith}
 use lib.Bits.{bitOr}
-use lib.Dec.{leb, ltb}
+use lib.Dec.{eqb, leb, ltb}
 use lib.ListN.{length, getD, drop, take, set, length-set, drop-of-length-le}
 use lib.Seq.{drop-cons, take-suc-set, drop-set-lt, append-snoc, take-all}
 use borrow.Author.Tests.{eq-eqb, ne-eqb, le-leb, lt-leb, leb-true, leb-false, lt-ltb, le-ltb}
@@ -16,9 +16,9 @@ use Rattle.model.specs.Reading.{missing}
 use Rattle.model.specs.Row.{overlaps, overwritten, merged}
 use Rattle.merge.specs.declared.Merged.the-variants.{Done, Overlapping, Unequal}
 use Rattle.reading.specs.Gaps.{gapOf}
-use Rattle.merge.specs.Merging.{bothOf, sourceFirst, mergedIf, MergedAs, mergedAlone}
+use Rattle.merge.specs.Merging.{eitherGap, sourceFirst, mergedIf, MergedAs, mergedAlone}
 
--- 1 where both are readings
+-- 1 where one is missing
 
 or-one : (p q : Bool) → bitOr (cond p 1 0) (cond q 1 0) ≡ cond (p || q) 1 0
 or-one true true = refl
@@ -26,64 +26,74 @@ or-one true false = refl
 or-one false true = refl
 or-one false false = refl
 
-one-less : (p : Bool) → (cond p 1 0 ≤ 1) × (1 - cond p 1 0 ≡ cond p 0 1)
-one-less true = (le-refl 1, refl)
-one-less false = (omega arith, refl)
+pub gap-told : (x y : ℕ) → bitOr (gapOf x) (gapOf y) ≡ eitherGap x y
+unfolding gapOf eitherGap
+gap-told x y = or-one (missing x) (missing y)
 
-pub gaps-at-most : (x y : ℕ) → bitOr (gapOf x) (gapOf y) ≤ 1
-unfolding gapOf
-gaps-at-most x y = rw (or-one (missing x) (missing y)) (one-less (missing x || missing y) .0)
-
-pub both-told : (x y : ℕ) → 1 - bitOr (gapOf x) (gapOf y) ≡ bothOf x y
-unfolding gapOf bothOf
-both-told x y = rw (or-one (missing x) (missing y)) (one-less (missing x || missing y) .1)
-
-one-at-most : (p : Bool) → cond p 0 1 ≤ 1
+one-at-most : (p : Bool) → cond p 1 0 ≤ 1
 one-at-most true = omega arith
 one-at-most false = omega arith
 
-both-at-most : (x y : ℕ) → bothOf x y ≤ 1
-unfolding bothOf
-both-at-most x y = one-at-most (missing x || missing y)
+gap-at-most : (x y : ℕ) → eitherGap x y ≤ 1
+unfolding eitherGap
+gap-at-most x y = one-at-most (missing x || missing y)
+
+-- the source first
+
+pub gap-fits : (y g : ℕ) → g ≡ gapOf y → g ≤ 1
+unfolding gapOf
+gap-fits y g e = rw e (one-at-most (missing y))
+
+pub source-chosen : (x y g : ℕ) → g ≡ gapOf y → cond (eqb g 0) y x ≡ sourceFirst x y
+unfolding gapOf sourceFirst
+source-chosen x y g e = rw e (go (missing y))
+  where
+    go : (p : Bool) → cond (eqb (cond p 1 0) 0) y x ≡ cond p x y
+    go true = refl
+    go false = refl
 
 -- counting
 
-counted : (p : Bool) (n : ℕ) → cond p n (suc n) ≡ cond p 0 1 + n
+counted : (p : Bool) (n : ℕ) → cond p n (suc n) + cond p 1 0 ≡ suc n
 counted true n = omega arith
 counted false n = omega arith
 
--- i places are passed, n of them overlap
+-- i places are passed, at n of them one row has no reading
 pub record Counted (d s : List ℕ) (n i : ℕ) : Type 0 where
   pub within : i ≤ length d
   pub fewer : n ≤ i
-  pub rest : n + overlaps (drop i d) (drop i s) ≡ overlaps d s
+  pub rest : overlaps d s + n ≡ overlaps (drop i d) (drop i s) + i
 
 module _ (d s : List ℕ) where
   pub count-starts : Counted d s 0 0
   count-starts = record { within = omega arith; fewer = omega arith; rest = omega arith }
 
   module _ (n i : ℕ) (k : Counted d s n i) where
-    overlaps-step : i < length d → i < length s → overlaps (drop i d) (drop i s) ≡ bothOf (getD d i 0) (getD s i 0) + overlaps (drop (i + 1) d) (drop (i + 1) s)
-    unfolding overlaps bothOf
+    overlaps-step : i < length d → i < length s
+        → overlaps (drop i d) (drop i s) + eitherGap (getD d i 0) (getD s i 0) ≡ suc (overlaps (drop (i + 1) d) (drop (i + 1) s))
+    unfolding overlaps eitherGap
     overlaps-step hd hs = rw (drop-cons d i 0, drop-cons s i 0, add-one, counted)
 
-    module _ (v : ℕ) (told : v ≡ bothOf (getD d i 0) (getD s i 0)) (same : length s ≡ length d) (h : i < length d) where
+    module _ (v : ℕ) (told : v ≡ eitherGap (getD d i 0) (getD s i 0)) (same : length s ≡ length d) (h : i < length d) where
       pub count-turn : Counted d s (n + v) (i + 1)
       count-turn = record {
         within = omega arith;
-        fewer = omega (arith, both-at-most (getD d i 0) (getD s i 0), k .fewer);
+        fewer = omega (arith, gap-at-most (getD d i 0) (getD s i 0), k .fewer);
         rest = omega (arith, k .rest, overlaps-step h (omega arith));
       }
 
       pub count-fits : n + v ≤ i + 1
-      count-fits = omega (arith, both-at-most (getD d i 0) (getD s i 0), k .fewer)
+      count-fits = omega (arith, gap-at-most (getD d i 0) (getD s i 0), k .fewer)
+
+    pub count-below : n ≤ length d
+    count-below = omega (arith, k .fewer, k .within)
 
     none-left : length d ≤ i → overlaps (drop i d) (drop i s) ≡ 0
     unfolding overlaps
     none-left h = rw (drop-of-length-le d)
 
-    pub count-ends : length d ≤ i → n ≡ overlaps d s
-    count-ends h = omega (arith, k .rest, none-left h)
+    pub count-ends : length d ≤ i → length d - n ≡ overlaps d s
+    count-ends h = omega (arith, k .rest, k .within, k .fewer, none-left h)
 
 -- overwriting, in place
 

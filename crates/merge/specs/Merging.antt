@@ -11,9 +11,9 @@ use Rattle.model.specs.Row.{overwritten, merged}
 use Rattle.merge.specs.declared.Merged.{Merged}
 use Rattle.merge.specs.declared.Merged.the-variants.{Done, Overlapping, Unequal}
 
--- 1 where both are readings
-unfoldable pub bothOf : ℕ → ℕ → ℕ
-bothOf x y = cond (missing x || missing y) 0 1
+-- 1 where one of two readings is missing
+unfoldable pub eitherGap : ℕ → ℕ → ℕ
+eitherGap x y = cond (missing x || missing y) 1 0
 
 -- 01: the source's readings overwrite
 unfoldable pub sourceFirst : ℕ → ℕ → ℕ

@@ -2,7 +2,7 @@
 ghost use mathlib.Core.Path.{_≡_};
 ghost use lib.ListN.{length};
 ghost use Rattle.model.specs.Row.{overlaps, overwritten, merged};
-ghost use Rattle.merge.specs.Merging.{bothOf, sourceFirst, mergedIf, MergedAs};
+ghost use Rattle.merge.specs.Merging.{eitherGap, sourceFirst, mergedIf, MergedAs};
 
 pub enum Merged {
     Done,
@@ -10,14 +10,14 @@ pub enum Merged {
     Unequal,
 }
 
-// 1 where both are readings, else 0.
-fn both(x: u64, y: u64) -> usize
-    ensures { λ r. ⌜ r ≡ bothOf x y ⌝ }
+// 1 where one of two readings is missing, else 0.
+fn either_gap(x: u64, y: u64) -> usize
+    ensures { λ r. ⌜ r ≡ eitherGap x y ⌝ }
 {
-    (1 - (reading::gap(x) | reading::gap(y))) as usize
+    (reading::gap(x) | reading::gap(y)) as usize
 }
 
-// At how many places both rows have a reading.
+// At how many places both rows have a reading: all places but those where one has none, which are counted in fewer steps.
 fn overlaps(dst: &[u64], src: &[u64]) -> usize
     requires { ⌜ length (now src) ≡ length (now dst) ⌝ }
     ensures { λ r. ⌜ r ≡ overlaps (now (dst .entry)) (now (src .entry)) ⌝ }
@@ -25,21 +25,21 @@ fn overlaps(dst: &[u64], src: &[u64]) -> usize
     let mut n: usize = 0;
     let mut i: usize = 0;
     while i < dst.len() {
-        n += both(dst[i], src[i]);
+        n += either_gap(dst[i], src[i]);
         i += 1;
     }
-    n
+    dst.len() - n
 }
 
 // The source's reading where it has one, else what the destination has.
 fn source_first(x: u64, y: u64) -> u64
     ensures { λ r. ⌜ r ≡ sourceFirst x y ⌝ }
 {
-    reading::pick(reading::is_missing(y), x, y)
+    reading::choose(reading::gap(y), x, y)
 }
 
-// The source's readings over the destination's.
-fn overwrite(dst: &mut [u64], src: &[u64])
+// Writes the source's readings over the destination's.
+pub fn overwrite(dst: &mut [u64], src: &[u64])
     requires { ⌜ length (now src) ≡ length (now dst) ⌝ }
     ensures { λ _. ⌜ now (dst .exit) ≡ overwritten (now (dst .entry)) (now (src .entry)) ⌝ }
 {

@@ -4,7 +4,7 @@ use mathlib.Core.Path.{_≡_, refl, sym, ap, _∙_}
 use mathlib.Core.Bool.{Bool, true, false}
 use mathlib.Core.Option.{Option, none, some}
 use mathlib.Core.List.{List}
-use native.Mathlib.Nat.{sub-zero, mul-le-mul-right, suc-mul}
+use native.Mathlib.Nat.{mul-le-mul-right, suc-mul}
 use native.Mathlib.Numerals.{add-one}
 use native.Mathlib.Omega.{arith}
 use lib.Dec.{eqb}
@@ -12,19 +12,15 @@ use lib.ListN.{length, getD, take, drop, length-drop}
 use lib.Seq.{drop-cons, length-take-le, take-all}
 use borrow.Author.Tests.{eq-eqb, ne-eqb}
 use Rattle.model.specs.Lists.{cases}
-use Rattle.model.specs.Row.{overwritten, merged}
-use Rattle.model.specs.Laws.Row.{overwritten-wide}
+use Rattle.model.specs.Row.{merged}
 use Rattle.merge.specs.declared.Merged.{Merged}
 use Rattle.merge.specs.declared.Merged.the-variants as M
 use Rattle.merge.specs.Merging.{done, overlapping, refused, doneOr, mergedAlone, MergedAs}
-use Rattle.plan.specs.Keys.{firstOf, lastOf}
-use Rattle.plan.specs.Laws.Ends.{last-within}
-use Rattle.plan.specs.Merging.{RowMerge, row, failedAt, onRow, mergeGroup, mergeLast, mergeLead}
+use Rattle.plan.specs.Merging.{RowMerge, row, failedAt, onRow, mergeGroup, mergeLead}
 use Rattle.side_parts.specs.Sides.{rowAt}
 use Rattle.merging.specs.declared.Merges.{Merges}
 use Rattle.merging.specs.declared.Merges.the-variants.{Done, FailedAt}
 use Rattle.merging.specs.Groups.{absorbedOne, thereIf, AbsorbedAs, MergedGroup}
-use Rattle.merging.specs.Several.{mergeSeveral}
 
 -- `absorb`
 
@@ -141,40 +137,16 @@ module _ (allowance : ℕ) (rows groups : List ℕ) (g : ℕ) where
         none-left : row d ≡ mergeGroup allowance p rows g i (take (to - i) (drop i groups)) d
         none-left = unfold mergeGroup in (let n : to - i ≡ 0 = omega arith in rw n)
 
--- `merge_last`, `merge_lead`
+-- `merge_lead`
 
-row-of : (i n p : ℕ) (rows : List ℕ) → i < n → n * p ≤ length rows → i * p + p ≤ length rows
+pub row-of : (i n p : ℕ) (rows : List ℕ) → i < n → n * p ≤ length rows → i * p + p ≤ length rows
 row-of i n p rows h room = let z : i * p + p ≤ n * p = rw (← suc-mul) (mul-le-mul-right p (omega arith)) in omega arith
 
-row-long : (i n p : ℕ) (rows : List ℕ) → i < n → n * p ≤ length rows → length (rowAt p rows i) ≡ p
+pub row-long : (i n p : ℕ) (rows : List ℕ) → i < n → n * p ≤ length rows → length (rowAt p rows i) ≡ p
 row-long i n p rows h room =
     length-take-le p (drop (i * p) rows) (let z = row-of i n p rows h room in omega (arith, z, length-drop (i * p) rows))
 
 module _ (rows keys : List ℕ) (p : ℕ) (room : length keys * p ≤ length rows) where
-  module _ (k : ℕ) (h : firstOf keys k < length keys) (last : ℕ) (hl : last ≡ lastOf keys k) where
-    within : last < length keys
-    within = rw hl (last-within k keys h)
-
-    pub last-row : last * p + p ≤ length rows
-    last-row = row-of last (length keys) p rows within room
-
-    pub last-before : last ≤ length keys
-    last-before = omega (arith, within)
-
-    pub last-long : (s : List ℕ) → s ≡ rowAt p rows last → length s ≡ p
-    last-long s hs = rw hs (row-long last (length keys) p rows within room)
-
-    pub last-room : (s d : List ℕ) → s ≡ rowAt p rows last → d ≡ s → length keys * length d ≤ length rows
-    last-room s d hs hd = let e : length d ≡ p = rw hd (last-long s hs) in rw e room
-
-    pub last-merged : (allowance : ℕ) (s d : List ℕ) → s ≡ rowAt p rows last → d ≡ s → (d′ : List ℕ) (r : Merges)
-        → MergedGroup (mergeGroup allowance (length d) rows k 0 (take (last - 0) (drop 0 keys)) d) (length d) d′ r
-        → MergedGroup (mergeLast allowance p rows keys k) p d′ r
-    unfolding mergeLast
-    last-merged allowance s d hs hd d′ r m =
-        let e : length d ≡ p = rw hd (last-long s hs) in
-        rw (← hl) (rw (e, sub-zero, hd, hs) at m)
-
   module _ (o : ℕ) (h : o < length keys) where
     pub lead-row : o * p + p ≤ length rows
     lead-row = row-of o (length keys) p rows h room
@@ -194,32 +166,3 @@ module _ (rows keys : List ℕ) (p : ℕ) (room : length keys * p ≤ length row
         let t : take (length keys - (o + 1)) (drop (o + 1) keys)
         ≡ drop (o + 1) keys = take-all (length keys - (o + 1)) (drop (o + 1) keys) (omega (arith, length-drop (o + 1) keys)) in
         rw (e, t, add-one o, hd, hs) at m
-
--- `merge_several`
-
-module _ (rows keys : List ℕ) (p : ℕ) (room : length keys * p ≤ length rows) (last : ℕ) (h : last < length keys) where
-  pub later-row : last * p + p ≤ length rows
-  later-row = row-of last (length keys) p rows h room
-
-  pub later-long : (x : List ℕ) → x ≡ rowAt p rows last → length x ≡ p
-  later-long x hx = rw hx (row-long last (length keys) p rows h room)
-
-  module _ (first : ℕ) (before : first < last) where
-    pub earlier-row : first * p + p ≤ length rows
-    earlier-row = row-of first (length keys) p rows (omega arith) room
-
-    pub earlier-long : (y : List ℕ) → y ≡ rowAt p rows first → length y ≡ p
-    earlier-long y hy = rw hy (row-long first (length keys) p rows (omega arith) room)
-
-  -- the later row, written over by the earlier
-  module _ (first : ℕ) (x y d : List ℕ) (hx : x ≡ rowAt p rows last) (hy : y ≡ rowAt p rows first) (hd : d ≡ overwritten x y) where
-    several-long : length d ≡ p
-    several-long = ap length hd ∙ overwritten-wide x y ∙ later-long x hx
-
-    pub several-room : length keys * length d ≤ length rows
-    several-room = rw several-long room
-
-    pub several-told : (allowance : ℕ) (d′ : List ℕ) (r : Merges)
-        → MergedGroup (mergeGroup allowance (length d) rows (getD keys last 0) (first + 1) (take (last - (first + 1)) (drop (first + 1) keys)) d)
-        (length d) d′ r → MergedGroup (mergeSeveral allowance p rows keys first last) p d′ r
-    several-told allowance d′ r g = rw (several-long, add-one first, hd, hx, hy) at g

@@ -1,2 +1,2 @@
 pub mod Groups
-pub mod Marks
+pub mod Overwriting

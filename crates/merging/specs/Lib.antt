@@ -1,4 +1,6 @@
 pub mod Groups
+pub mod Overwriting
+pub mod OverLaws
 pub mod Several
 pub mod Marks
 pub mod MarkLaws

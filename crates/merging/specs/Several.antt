@@ -1,25 +1,32 @@
--- The series of a key merged into its last, by how many there are: one is its row, and of several the first is merged first. Assumes nothing.
+-- The series of a key merged into its last: one is its row, of several the first is merged first. Assumes nothing.
 use Prim.Native.Nat.{ℕ, zero, suc, _+_, _-_, _≤_, _<_}
 use mathlib.Core.Path.{_≡_, refl, sym, ap, _∙_}
-use mathlib.Core.Bool.{true}
+use mathlib.Core.Bool.{Bool, true, false, cond, _||_}
+use mathlib.Core.Option.{none, some}
 use mathlib.Core.List.{List, [], _∷_}
 use native.Mathlib.Omega.{arith}
-use lib.Dec.{eqb}
-use lib.ListN.{length, getD, take, drop}
-use lib.Seq.{take-all}
+use lib.Dec.{eqb, leb, ltb}
+use lib.ListN.{length, getD, take, drop, length-drop}
+use lib.Seq.{take-all, length-take-le, getD-take, getD-drop}
 use Rattle.model.specs.Lists.{cases}
-use Rattle.model.specs.Row.{overwritten, merged}
+use Rattle.model.specs.Row.{overlaps, overwritten, merged}
 use Rattle.merge.specs.Merging.{mergedIf}
 use Rattle.plan.specs.Keys.{firstOf, lastOf, KeyEnds}
 use Rattle.plan.specs.Merging.{RowMerge, row, failedAt, onRow, mergeGroup, mergeLast}
 use Rattle.side_parts.specs.Sides.{rowAt}
-use Rattle.plan.specs.Laws.Ends.{last-is, several-stand}
+use Rattle.plan.specs.Laws.Ends.{last-is, ends-within, several-stand}
+use Rattle.merging.specs.Overwriting.{inGroup, rowOfSeveral}
+use Rattle.merging.specs.OverLaws.{group-row}
 
--- the row `last` with the row `first` written over it, then those between them of its key merged into it
-abbrev pub mergeSeveral : ℕ → ℕ → List ℕ → List ℕ → ℕ → ℕ → RowMerge
-mergeSeveral allowance p rows keys first last =
-    mergeGroup allowance p rows (getD keys last 0) (suc first) (take (last - suc first) (drop (suc first) keys))
-    (overwritten (rowAt p rows last) (rowAt p rows first))
+all-or-none : (allowance : ℕ) (d s e : List ℕ) (i : ℕ) (f : List ℕ → RowMerge)
+    → onRow (merged allowance d s) (failedAt i d) f ≡ row e → f (overwritten d s) ≡ row e
+unfolding merged
+all-or-none allowance d s e i f h = go (leb (length d) 2 || ltb allowance (overlaps d s)) h
+  where
+    go : (b : Bool) → onRow (cond b none (some (overwritten d s))) (failedAt i d) f ≡ row e
+        → f (overwritten d s) ≡ row e
+    go true h = absurd (let z : _≡_ {A = ℕ} 0 1 = cc in omega arith)
+    go false h = h
 
 module _ (allowance p : ℕ) (rows : List ℕ) (k : ℕ) where
   none-merge : (keys : List ℕ) (i : ℕ) (d : List ℕ) → mergeGroup allowance p rows k i (take (firstOf keys k) keys) d ≡ row d
@@ -73,8 +80,21 @@ module _ (allowance p : ℕ) (rows : List ℕ) (k : ℕ) where
     key-at-last : first < last → getD keys last 0 ≡ k
     key-at-last h = rw (e .last-place) (last-is k keys (rw (← e .first-place) (several-stand keys k first last e h)))
 
-    -- by the places of a key: all its series, where the first of them merges
-    pub several-all : first < last → mergedIf true (rowAt p rows last) (rowAt p rows first)
-        ≡ merged allowance (rowAt p rows last) (rowAt p rows first)
-        → mergeSeveral allowance p rows keys first last ≡ mergeLast allowance p rows keys k
-    several-all h m = rw (key-at-last h) (sym (several-merged h m))
+    -- where all merge, the rows of the key written over one another are the merged row
+    pub several-row : first < last → (d : List ℕ) → mergeLast allowance p rows keys k ≡ row d
+        → rowOfSeveral p rows keys first last ≡ d
+    several-row h d m =
+        let inside : last < length keys = ends-within keys k first last e (several-stand keys k first last e h) in
+        let wide : length (take (last - suc first) (drop (suc first) keys)) ≡ last - suc first =
+        length-take-le (last - suc first) (drop (suc first) keys) (omega (arith, inside, length-drop (suc first) keys)) in
+        rw (key-at-last h)
+        (rw wide at
+        (group-row p rows allowance k (inGroup keys k) (take (last - suc first) (drop (suc first) keys)) (suc first)
+        (overwritten (rowAt p rows last) (rowAt p rows first)) d
+        (λ j w.
+        rw (
+          getD-take (last - suc first) (drop (suc first) keys) j 0 (omega (arith, w, wide)),
+          getD-drop (suc first) keys j 0,
+        ))
+        (all-or-none allowance (rowAt p rows last) (rowAt p rows first) d first
+        (mergeGroup allowance p rows k (suc first) (take (last - suc first) (drop (suc first) keys))) (sym (several h) ∙ m))))

@@ -1,13 +1,14 @@
-// Rows of one array merged by their groups: the series of a key into the last of them, and those behind a leader into it.
+// Rows of one array put together by their groups: the series of a key into the last of them, and those behind a leader
+// into it. A plan merges them, and is told of a row that may not be merged; a row of the answer is then written with no
+// place counted again.
 use merge::Merged;
 ghost use mathlib.Core.Path.{_≡_};
 ghost use Prim.Native.Nat.{_+_, _-_, _*_, _≤_, _<_};
 ghost use lib.ListN.{length, take, drop};
-ghost use Rattle.plan.specs.Keys.{firstOf};
-ghost use Rattle.plan.specs.Merging.{mergeGroup, mergeLast, mergeLead};
+ghost use Rattle.plan.specs.Merging.{mergeGroup, mergeLead};
 ghost use Rattle.merging.specs.Groups.{AbsorbedAs, MergedGroup};
-ghost use Rattle.merging.specs.Several.{mergeSeveral};
-ghost use Rattle.merging.specs.Marks.{leadMarked, leadsMarked};
+ghost use Rattle.merging.specs.Overwriting.{overwrittenIf, overwrittenBy, inGroup, rowOfSeveral};
+ghost use Rattle.merging.specs.Marks.{bitsFrom, markedBehind, rowOfMarked};
 
 // Merges the row of series i, whose group is x, if that is g. Says whether the row is merged as it should be.
 fn absorb(rows: &[u64], x: usize, g: usize, i: usize, allowance: usize, dst: &mut [u64]) -> bool
@@ -32,7 +33,7 @@ pub enum Merges {
 }
 
 // Merges the rows of a group from a place up to another, in order.
-fn merge_between(
+pub fn merge_between(
     rows: &[u64],
     groups: &[usize],
     g: usize,
@@ -44,8 +45,12 @@ fn merge_between(
     requires { ⌜ from ≤ to ⌝ }
     requires { ⌜ to ≤ length (now groups) ⌝ }
     requires { ⌜ length (now groups) * length (now dst) ≤ length (now rows) ⌝ }
-    ensures { λ r. ⌜ MergedGroup (mergeGroup allowance (length (now (dst .entry))) (now (rows .entry)) g from
-        (take (to - from) (drop from (now (groups .entry)))) (now (dst .entry))) (length (now (dst .entry))) (now (dst .exit)) r ⌝ }
+    ensures { λ r. ⌜
+        MergedGroup
+        (mergeGroup allowance (length (now (dst .entry))) (now (rows .entry)) g from
+        (take (to - from) (drop from (now (groups .entry)))) (now (dst .entry)))
+        (length (now (dst .entry))) (now (dst .exit)) r
+        ⌝ }
 {
     let mut i = from;
     while i < to {
@@ -58,49 +63,6 @@ fn merge_between(
     Merges::Done
 }
 
-// The last row of a key, with the earlier ones merged into it.
-pub fn merge_last(
-    rows: &[u64],
-    keys: &[usize],
-    k: usize,
-    allowance: usize,
-    dst: &mut [u64],
-) -> Merges
-    requires { ⌜ firstOf (now keys) k < length (now keys) ⌝ }
-    requires { ⌜ length (now keys) * length (now dst) ≤ length (now rows) ⌝ }
-    ensures { λ r. ⌜ MergedGroup (mergeLast allowance (length (now (dst .entry))) (now (rows .entry)) (now (keys .entry)) k)
-        (length (now (dst .entry))) (now (dst .exit)) r ⌝ }
-{
-    let p = dst.len();
-    let last = key_ends::last_of(keys, k);
-    answers::copy_row(dst, side_parts::row(rows, p, last));
-    merge_between(rows, keys, k, 0, last, allowance, dst)
-}
-
-// The row of a place with an earlier one written over it, then those of its key between the two merged into it, in order.
-pub fn merge_several(
-    rows: &[u64],
-    keys: &[usize],
-    first: usize,
-    last: usize,
-    allowance: usize,
-    dst: &mut [u64],
-) -> Merges
-    requires { ⌜ first < last ⌝ }
-    requires { ⌜ last < length (now keys) ⌝ }
-    requires { ⌜ length (now keys) * length (now dst) ≤ length (now rows) ⌝ }
-    ensures { λ r. ⌜ MergedGroup (mergeSeveral allowance (length (now (dst .entry))) (now (rows .entry)) (now (keys .entry)) first last)
-        (length (now (dst .entry))) (now (dst .exit)) r ⌝ }
-{
-    let p = dst.len();
-    merge::put_overwritten(
-        dst,
-        side_parts::row(rows, p, last),
-        side_parts::row(rows, p, first),
-    );
-    merge_between(rows, keys, keys[last], first + 1, last, allowance, dst)
-}
-
 // The row that leads a group, with the later ones merged into it.
 pub fn merge_lead(
     rows: &[u64],
@@ -111,74 +73,122 @@ pub fn merge_lead(
 ) -> Merges
     requires { ⌜ o < length (now leads) ⌝ }
     requires { ⌜ length (now leads) * length (now dst) ≤ length (now rows) ⌝ }
-    ensures { λ r. ⌜ MergedGroup (mergeLead allowance (length (now (dst .entry))) (now (rows .entry)) (now (leads .entry)) o)
-        (length (now (dst .entry))) (now (dst .exit)) r ⌝ }
+    ensures { λ r. ⌜
+        MergedGroup (mergeLead allowance (length (now (dst .entry))) (now (rows .entry)) (now (leads .entry)) o)
+        (length (now (dst .entry))) (now (dst .exit)) r
+        ⌝ }
 {
     let p = dst.len();
     answers::copy_row(dst, side_parts::row(rows, p, o));
     merge_between(rows, leads, o, o + 1, leads.len(), allowance, dst)
 }
 
-// The leader of the place i by the marks behind the leader o: o where its bit is set.
-fn lead_marked(marks: &[usize], o: usize, i: usize) -> usize
-    requires { ⌜ o < i ⌝ }
-    requires { ⌜ i ≤ 512 ⌝ }
-    requires { ⌜ 8 ≤ length (now marks) ⌝ }
-    ensures { λ r. ⌜ r ≡ leadMarked (now (marks .entry)) o i ⌝ }
+// Writes the row of series i, whose group is x, over dst if that is g.
+fn overwrite_if(rows: &[u64], x: usize, g: usize, i: usize, dst: &mut [u64])
+    requires { ⌜ i * length (now dst) + length (now dst) ≤ length (now rows) ⌝ }
+    ensures { λ _. ⌜
+        now (dst .exit) ≡ overwrittenIf (length (now (dst .entry))) (now (rows .entry)) x g i (now (dst .entry))
+        ⌝ }
 {
-    let j = i - (o + 1);
-    let word = marks[j / 64];
-    if (word >> (j % 64)) % 2 == 1 {
-        return o;
+    if x == g {
+        let p = dst.len();
+        merge::overwrite(dst, side_parts::row(rows, p, i));
     }
-    key_ends::DROPPED
 }
 
-// Merges the rows that are marked behind the leader o, of `count` rows, in order.
-fn merge_marks(
+// Writes the rows of a group from a place up to another over dst, in order.
+fn overwrite_between(
     rows: &[u64],
-    marks: &[usize],
-    o: usize,
-    count: usize,
-    allowance: usize,
+    groups: &[usize],
+    g: usize,
+    from: usize,
+    to: usize,
     dst: &mut [u64],
-) -> Merges
+)
+    requires { ⌜ from ≤ to ⌝ }
+    requires { ⌜ to ≤ length (now groups) ⌝ }
+    requires { ⌜ length (now groups) * length (now dst) ≤ length (now rows) ⌝ }
+    ensures { λ _. ⌜
+        now (dst .exit) ≡ overwrittenBy (length (now (dst .entry))) (now (rows .entry))
+        (inGroup (now (groups .entry)) g) from (to - from) (now (dst .entry))
+        ⌝ }
+{
+    let mut i = from;
+    while i < to {
+        overwrite_if(rows, groups[i], g, i, dst);
+        i += 1;
+    }
+}
+
+// The row of a place with an earlier one over it, then those of its key between the two, in order.
+pub fn put_several(rows: &[u64], keys: &[usize], first: usize, last: usize, dst: &mut [u64])
+    requires { ⌜ first < last ⌝ }
+    requires { ⌜ last < length (now keys) ⌝ }
+    requires { ⌜ length (now keys) * length (now dst) ≤ length (now rows) ⌝ }
+    ensures { λ _. ⌜
+        now (dst .exit) ≡ rowOfSeveral (length (now (dst .entry))) (now (rows .entry)) (now (keys .entry)) first last
+        ⌝ }
+{
+    let p = dst.len();
+    merge::put_overwritten(
+        dst,
+        side_parts::row(rows, p, last),
+        side_parts::row(rows, p, first),
+    );
+    overwrite_between(rows, keys, keys[last], first + 1, last, dst);
+}
+
+// Writes the rows that a word marks over dst, in order, up to its last bit: bit j is the place `from` + j, of `count`.
+fn overwrite_word(rows: &[u64], word: usize, from: usize, count: usize, dst: &mut [u64])
+    requires { ⌜ count * length (now dst) ≤ length (now rows) ⌝ }
+    ensures { λ _. ⌜
+        now (dst .exit) ≡ overwrittenBy (length (now (dst .entry))) (now (rows .entry)) (bitsFrom word from) from
+        (count - from) (now (dst .entry))
+        ⌝ }
+{
+    let mut w = word;
+    let mut i = from;
+    while w != 0 {
+        if count <= i {
+            return;
+        }
+        overwrite_if(rows, w % 2, 1, i, dst);
+        w /= 2;
+        i += 1;
+    }
+}
+
+// Writes the rows that are marked behind the leader o, of `count` rows, over dst, in order: 64 a word.
+fn overwrite_marks(rows: &[u64], marks: &[usize], o: usize, count: usize, dst: &mut [u64])
     requires { ⌜ o < count ⌝ }
     requires { ⌜ count ≤ 512 ⌝ }
     requires { ⌜ 8 ≤ length (now marks) ⌝ }
     requires { ⌜ count * length (now dst) ≤ length (now rows) ⌝ }
-    ensures { λ r. ⌜ MergedGroup (mergeGroup allowance (length (now (dst .entry))) (now (rows .entry)) o (o + 1)
-        (take (count - (o + 1)) (drop (o + 1) (leadsMarked (now (marks .entry)) o 0 count))) (now (dst .entry))) (length (now (dst .entry)))
-        (now (dst .exit)) r ⌝ }
+    ensures { λ _. ⌜
+        now (dst .exit) ≡ overwrittenBy (length (now (dst .entry))) (now (rows .entry))
+        (markedBehind (now (marks .entry)) o) (o + 1) (count - (o + 1)) (now (dst .entry))
+        ⌝ }
 {
+    let mut k: usize = 0;
     let mut i = o + 1;
     while i < count {
-        if absorb(rows, lead_marked(marks, o, i), o, i, allowance, dst) {
-            i += 1;
-        } else {
-            return Merges::FailedAt(i);
-        }
+        overwrite_word(rows, marks[k], i, count, dst);
+        k += 1;
+        i += 64;
     }
-    Merges::Done
 }
 
-// The row that leads a group, with the later ones merged into it that are marked.
-pub fn merge_marked(
-    rows: &[u64],
-    marks: &[usize],
-    o: usize,
-    count: usize,
-    allowance: usize,
-    dst: &mut [u64],
-) -> Merges
+// The row that leads a group, with the later ones over it that are marked behind it, of `count` rows, in order.
+pub fn put_marked(rows: &[u64], marks: &[usize], o: usize, count: usize, dst: &mut [u64])
     requires { ⌜ o < count ⌝ }
     requires { ⌜ count ≤ 512 ⌝ }
     requires { ⌜ 8 ≤ length (now marks) ⌝ }
     requires { ⌜ count * length (now dst) ≤ length (now rows) ⌝ }
-    ensures { λ r. ⌜ MergedGroup (mergeLead allowance (length (now (dst .entry))) (now (rows .entry)) (leadsMarked (now (marks .entry)) o 0 count) o)
-        (length (now (dst .entry))) (now (dst .exit)) r ⌝ }
+    ensures { λ _. ⌜
+        now (dst .exit) ≡ rowOfMarked (length (now (dst .entry))) (now (rows .entry)) (now (marks .entry)) o count
+        ⌝ }
 {
     let p = dst.len();
     answers::copy_row(dst, side_parts::row(rows, p, o));
-    merge_marks(rows, marks, o, count, allowance, dst)
+    overwrite_marks(rows, marks, o, count, dst);
 }

@@ -9,7 +9,7 @@ use Rattle.answers.specs.declared.Told.the-variants.{Answer, Refusal}
 use Rattle.answers.specs.Outcomes.{wanted, labelsAfter, readingsAfter}
 
 abbrev pub numbersOf : Told → List ℕ
-numbersOf (Answer series points bytes) = 0 ∷ 0 ∷ 0 ∷ series ∷ points ∷ bytes ∷ []
+numbersOf (Answer series shape bytes) = 0 ∷ 0 ∷ 0 ∷ series ∷ shape .points ∷ bytes ∷ []
 numbersOf (Refusal number first second) = number ∷ first ∷ second ∷ 0 ∷ 0 ∷ 0 ∷ []
 
 -- a call that is to come to `want` stores its six numbers in the result, which has six places, and leaves in the output parts what `want` says

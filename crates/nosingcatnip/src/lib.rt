@@ -16,9 +16,9 @@ fn report(outcome: Outcome, result: &mut [u64; 6])
     match answers::told_as(outcome) {
         Told::Answer {
             series,
-            points,
+            shape,
             bytes,
-        } => put(result, 0, 0, 0, series, points, bytes),
+        } => put(result, 0, 0, 0, series, shape.points, bytes),
         Told::Refusal {
             number,
             first,

@@ -45,7 +45,11 @@ workBy (arithmetic a) scalar empty = setWork filled scalar empty
 workBy (comparison c) scalar empty = setWork filled scalar empty
 workBy notCarried scalar empty = setWork filled scalar empty
 
--- and on two sides
+-- the rule of an operator, whatever its sides
+abbrev pub ruleBy : Kind → SetRule
+ruleBy kind = workBy kind false false .rule
+
+-- what it does on two sides
 abbrev pub workFor : Kind → Sides → SetWork
 workFor kind s = workBy kind (isScalar (sideLabels (s .right))) (isEmpty (s .left .keys))
 
@@ -58,20 +62,27 @@ placesOf k i (x ∷ xs) = cond (eqb x k) (i ∷ placesOf k (suc i) xs) (placesOf
 abbrev pub metPlaces : Bool → List ℕ → ℕ → List ℕ
 metPlaces falls keys k = cond (isEmpty (placesOf k 0 keys) && falls) (0 ∷ []) (placesOf k 0 keys)
 
+-- a reading of a right series, and the place of the series
+pub record Hit : Type 0 where
+  pub place : ℕ
+  pub reading : ℕ
+
 -- 01: The search over right series stops at the first reading found. At the point i.
-unfoldable pub firstAt : ℕ → List ℕ → ℕ → List ℕ → Option ℕ
+unfoldable pub firstAt : ℕ → List ℕ → ℕ → List ℕ → Option Hit
 firstAt p rows i [] = none
 firstAt p rows i (j ∷ places) =
-    cond (missing (getD rows (j * p + i) noReading)) (firstAt p rows i places) (some (getD rows (j * p + i) noReading))
+    cond (missing (getD rows (j * p + i) noReading))
+    (firstAt p rows i places)
+    (some (record { place = j; reading = getD rows (j * p + i) noReading }))
 
 -- 01: `and`, `if` keep the left reading if one has a reading; `unless`, `ifnot` if none has; `or`, `default` fill N from the first that has.
-abbrev pub setPoint : SetRule → Option ℕ → ℕ → ℕ
+abbrev pub setPoint : SetRule → Option Hit → ℕ → ℕ
 setPoint whereFound none x = noReading
-setPoint whereFound (some y) x = x
+setPoint whereFound (some h) x = x
 setPoint whereNone none x = x
-setPoint whereNone (some y) x = noReading
+setPoint whereNone (some h) x = noReading
 setPoint filled none x = x
-setPoint filled (some y) x = cond (missing x) y x
+setPoint filled (some h) x = cond (missing x) (h .reading) x
 
 unfoldable pub setRow : SetRule → ℕ → List ℕ → List ℕ → List ℕ → List ℕ
 setRow rule p rows places x = pointwise (λ i. setPoint rule (firstAt p rows i places)) 0 x

@@ -177,7 +177,7 @@ module _ (o : Operator) (s : List ℕ) where
               matching = m;
               join = j;
               «keep_names» = eqb (getD s 3 0 % 2) 1;
-              bool = leb 2 (getD s 3 0);
+              «as_bool» = leb 2 (getD s 3 0);
               «join_at» = at;
             }
 

@@ -38,7 +38,7 @@ queryBy names join q = record {
   matching = matchingOf (q .matching);
   join = joinOf (q .join);
   keepNames = q .«keep_names»;
-  bool = q .bool;
+  bool = q .«as_bool»;
   matchingList = namesOf names;
   joinList = namesOf join;
 }

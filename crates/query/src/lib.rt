@@ -34,7 +34,7 @@ pub struct Query {
     pub matching: Matching,
     pub join: Join,
     pub keep_names: bool,
-    pub bool: bool,
+    pub as_bool: bool,
     pub join_at: usize,
 }
 
@@ -126,7 +126,7 @@ fn take_lists(s: &[u8], operator: Operator, at: usize) -> Request
                 matching,
                 join,
                 keep_names: flags % 2 == 1,
-                bool: flags >= 2,
+                as_bool: flags >= 2,
                 join_at: at,
             })
         } else {

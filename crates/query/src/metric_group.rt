@@ -5,7 +5,7 @@ ghost use Rattle.model.specs.Query.{resets};
 
 // Whether the names of an answer's series are cleared.
 pub fn should_reset_metric_group(q: Query) -> bool
-    ensures { λ r. ⌜ r ≡ resets (q .operator) (q .«keep_names») (q .bool) ⌝ }
+    ensures { λ r. ⌜ r ≡ resets (q .operator) (q .«keep_names») (q .«as_bool») ⌝ }
 {
     let operator = q.operator;
     if q.keep_names {
@@ -15,7 +15,7 @@ pub fn should_reset_metric_group(q: Query) -> bool
         return false;
     }
     if operator.is_comparison() {
-        q.bool
+        q.as_bool
     } else {
         true
     }

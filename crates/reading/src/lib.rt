@@ -1,14 +1,17 @@
 // Readings. A reading is the 64 bits of a binary64; it is missing where they are a NaN's.
 ghost use mathlib.Core.Path.{_≡_};
 ghost use mathlib.Core.Bool.{cond, not};
-ghost use Prim.Native.Nat.{_+_};
-ghost use lib.Dec.{T};
+ghost use Prim.Native.Nat.{_+_, _≤_};
+ghost use lib.Dec.{T, eqb};
 ghost use lib.Ieee.{binary64, toBits, nanBits};
 ghost use Rattle.model.specs.Reading.{missing};
 ghost use Rattle.reading.specs.Gaps.{gapOf, solidOf};
 
 // What a rule that gives no reading writes.
 pub const MISSING: u64 = 0x7ff8_0000_0000_0000;
+
+// All bits.
+const ALL: u64 = 0xffff_ffff_ffff_ffff;
 
 pub fn is_missing(x: u64) -> bool
     ensures { λ r. ⌜ r ≡ missing x ⌝ }
@@ -42,6 +45,16 @@ pub fn pick(c: bool, x: u64, y: u64) -> u64
     ensures { λ r. ⌜ r ≡ cond c x y ⌝ }
 {
     if c { x } else { y }
+}
+
+// x where g is 1, y where g is 0: y with all bits set where g is 1, less those that x lacks. A loop over a row does it two
+// at a time with no comparison.
+pub fn choose(g: u64, x: u64, y: u64) -> u64
+    requires { ⌜ g ≤ 1 ⌝ }
+    ensures { λ r. ⌜ r ≡ cond (eqb g 0) y x ⌝ }
+{
+    let m = g * ALL;
+    (y | m) - ((ALL - x) & m)
 }
 
 // The float of x, or 1.0 where some reading is missing.

@@ -1,24 +1,19 @@
 -- Words in which no bit is set, and rows of words. Assumes nothing.
 use Prim.Native.Nat.{ℕ, zero, suc, _+_, _-_, _/_, _%_, _^_, _≤_, _<_}
-use mathlib.Core.Path.{_≡_, refl, ap, _∙_}
+use mathlib.Core.Path.{_≡_, refl, sym, ap, _∙_}
 use mathlib.Core.Bool.{Bool, true, false, _&&_, cond}
 use mathlib.Core.List.{List, [], _∷_}
-use native.Mathlib.Nat.{zero-div}
 use native.Mathlib.Omega.{arith}
-use lib.Dec.{eqb}
-use lib.ListN.{length, getD, take, drop, length-drop}
+use lib.Dec.{eqb, ltb}
+use lib.ListN.{length, getD, take, drop, length-take, length-drop}
 use lib.Seq.{getD-take, getD-drop}
-use borrow.Author.Tests.{eqb-true, ne-eqb}
-use Rattle.plan.specs.Keys.{dropped}
-use Rattle.plan.specs.Merging.{row, mergeGroup, mergeLead}
+use borrow.Author.Tests.{eqb-true, ne-eqb, ltb-true, ltb-false}
+use Rattle.model.specs.Lists.{cases}
 use Rattle.side_parts.specs.Sides.{rowAt}
-use Rattle.merging.specs.Marks.{bit, markAt, leadMarked, leadsMarked}
-use Rattle.merging.specs.MarkLaws.{marked-long, marked-at, MarksOf}
-use Rattle.row_marks.specs.Words.{unmarked, MarksAt}
-
-pub bit-zero : (n : ℕ) → bit 0 n ≡ false
-unfolding bit
-bit-zero n = rw (zero-div (2 ^ n)) (ne-eqb (0 % 2) 1 (λ e. omega (arith, e)))
+use Rattle.merging.specs.Marks.{bit, markedBehind, rowOfMarked, MarksOf}
+use Rattle.merging.specs.OverLaws.{over-none}
+pub use Rattle.merging.specs.MarkLaws.{bit-zero}
+use Rattle.row_marks.specs.Words.{unmarked, wordCount, WordsPut, membersTo, MarksAt}
 
 both-true : (a b : Bool) → (a && b) ≡ true → (a ≡ true) × (b ≡ true)
 both-true true b h = (refl, h)
@@ -30,33 +25,62 @@ unmarked-word [] i h = refl
 unmarked-word (x ∷ words) zero h = eqb-true x 0 (both-true (eqb x 0) (unmarked words) h .0)
 unmarked-word (x ∷ words) (suc i) h = unmarked-word words i (both-true (eqb x 0) (unmarked words) h .1)
 
-none-merge : (allowance p : ℕ) (rows : List ℕ) (g : ℕ) (groups : List ℕ) (i : ℕ) (d : List ℕ)
-    → ((j : ℕ) → j < length groups → eqb (getD groups j 0) g ≡ false) → mergeGroup allowance p rows g i groups d ≡ row d
-unfolding mergeGroup
-none-merge allowance p rows g [] i d h = refl
-none-merge allowance p rows g (x ∷ groups) i d h = rw (h 0 (omega arith)) (none-merge allowance p rows g groups (suc i) d (λ j w. h (suc j) (omega (arith, w))))
-
--- where no bit is set, nothing is merged
-pub unmarked-merge : (allowance p : ℕ) (rows words : List ℕ) (o count : ℕ) → o < dropped → unmarked words ≡ true
-    → mergeLead allowance p rows (leadsMarked words o 0 count) o ≡ row (rowAt p rows o)
-unfolding mergeLead
-unmarked-merge allowance p rows words o count few h =
-    none-merge allowance p rows o (drop (suc o) (leadsMarked words o 0 count)) (suc o) (rowAt p rows o)
-    (λ j w.
-    let l : suc o + j < count = omega (arith, w, length-drop (suc o) (leadsMarked words o 0 count), marked-long words o 0 count) in
-    ap (λ x. eqb x o) (getD-drop (suc o) (leadsMarked words o 0 count) j 0 ∙ marked-at words o count (suc o + j) l ∙ unled (suc o + j))
-    ∙ ne-eqb dropped o (λ e. omega (arith, e, few)))
-  where
-    unled : (i : ℕ) → leadMarked words o i ≡ dropped
-    unled i = none-bit (markAt words (i - suc o)) (ap (λ x. bit x ((i - suc o) % 64)) (unmarked-word words ((i - suc o) / 64) h) ∙ bit-zero ((i - suc o) % 64))
-      where
-        none-bit : (b : Bool) → b ≡ false → cond b o dropped ≡ dropped
-        none-bit true e = cc
-        none-bit false e = refl
+-- where no bit is set, the leader's row stays
+pub unmarked-row : (p : ℕ) (rows words : List ℕ) (o count : ℕ) → unmarked words ≡ true
+    → rowOfMarked p rows words o count ≡ rowAt p rows o
+unmarked-row p rows words o count h =
+    over-none p rows (markedBehind words o) (count - suc o) (suc o) (rowAt p rows o)
+    (λ j l u.
+    ap (λ (x : ℕ). bit x ((j - suc o) % 64)) (unmarked-word words ((j - suc o) / 64) h) ∙ bit-zero ((j - suc o) % 64))
 
 -- the eight words from a place on, as a part
-pub part-marks : (leads : List ℕ) (o at : ℕ) (marks : List ℕ) → length leads ≤ 512 → MarksAt leads o at marks → MarksOf leads o (take 8 (drop at marks))
+pub part-marks : (leads : List ℕ) (o at : ℕ) (marks : List ℕ) → length leads ≤ 512 → MarksAt leads o at marks
+    → MarksOf leads o (take 8 (drop at marks))
 part-marks leads o at marks few h = record {
   each = λ j w.
-      ap (λ x. bit x (j % 64)) (getD-take 8 (drop at marks) (j / 64) 0 (omega (arith, w, few)) ∙ getD-drop at marks (j / 64) 0) ∙ h .each j w;
+      ap (λ x. bit x (j % 64))
+      (getD-take 8 (drop at marks) (j / 64) 0 (omega (arith, w, few)) ∙ getD-drop at marks (j / 64) 0) ∙ h .each j w;
 }
+
+-- where the words were clean, and no place behind `last` has the leader o, the marks up to `last` are all
+module _ (all leads : List ℕ) (o last at : ℕ) (before after : List ℕ)
+    (put : WordsPut (membersTo o last leads) o at before after) (inside : last < length leads)
+    (none : (i : ℕ) → last < i → i < length all → eqb (getD all i 0) o ≡ false) where
+  abbrev words : ℕ
+  words = wordCount (length (membersTo o last leads))
+
+  members-long : length (membersTo o last leads) ≡ last - o
+  members-long = simp (length-take, length-drop) (omega (arith, inside))
+
+  member-marked : (j : ℕ) → suc o + j < length all → ((i : ℕ) → o < i → i ≤ last → getD leads i 0 ≡ getD all i 0)
+      → (ltb j (length (membersTo o last leads)) && eqb (getD (membersTo o last leads) j 0) o)
+      ≡ eqb (getD all (suc o + j) 0) o
+  member-marked j h same =
+      rw members-long (cases (ltb j (last - o))
+      (λ e. rw e (ap (λ x. eqb x o) (there (ltb-true j (last - o) e))))
+      (λ e. rw e (sym (behind (ltb-false j (last - o) e)))))
+    where
+      there : j < last - o → getD (membersTo o last leads) j 0 ≡ getD all (suc o + j) 0
+      there l =
+          let z : o + 1 + j ≡ suc o + j = omega arith in
+          getD-take (last - o) (drop (o + 1) leads) j 0 l ∙ getD-drop (o + 1) leads j 0
+          ∙ ap (λ i. getD leads i 0) z ∙ same (suc o + j) (omega arith) (omega (arith, l))
+
+      behind : last - o ≤ j → eqb (getD all (suc o + j) 0) o ≡ false
+      behind l = none (suc o + j) (omega (arith, l)) h
+
+  pub row-marks : length all ≤ 512 → ((i : ℕ) → at ≤ i → getD before i 0 ≡ 0) → at + 8 ≤ length before
+      → ((i : ℕ) → o < i → i ≤ last → getD leads i 0 ≡ getD all i 0) → MarksAt all o at after
+  row-marks few clean room same = record {
+    each = λ j h.
+        cases (ltb (j / 64) words)
+        (λ e. put .marks j (ltb-true (j / 64) words e) (omega (arith, h, few, room)) ∙ member-marked j h same)
+        (λ e. beyond j h (ltb-false (j / 64) words e));
+  }
+    where
+      beyond : (j : ℕ) → suc o + j < length all → words ≤ j / 64
+          → bit (getD after (at + j / 64) 0) (j % 64) ≡ eqb (getD all (suc o + j) 0) o
+      beyond j h e =
+          ap (λ x. bit x (j % 64))
+          (put .frame .above (at + j / 64) (omega (arith, e)) ∙ clean (at + j / 64) (omega arith))
+          ∙ bit-zero (j % 64) ∙ sym (none (suc o + j) (omega (arith, e, members-long)) h)

@@ -1,12 +1,12 @@
-// The answer rows of a join: a many-side place and a one-side place as one number, the row's code; and the members behind the one-side place,
-// which leads them, as marks: eight words of 64 bits a row.
+// The answer rows of a join: a many-side place and a one-side place as one number, the row's code; and the members
+// behind the one-side place, which leads them, as marks: eight words of 64 bits a row.
 ghost use mathlib.Core.Path.{_≡_};
 ghost use mathlib.Core.Bool.{cond};
 ghost use Prim.Native.Nat.{_+_, _*_, _≤_, _<_};
 ghost use lib.Dec.{eqb};
 ghost use lib.ListN.{length, take, drop};
 ghost use Rattle.plan.specs.Joins.{rowCode, manyPlace, onePlace};
-ghost use Rattle.row_marks.specs.Words.{unmarked, wordOf, WordsPut, RowMarked, RowsMarked};
+ghost use Rattle.row_marks.specs.Words.{unmarked, wordOf, membersTo, WordsPut};
 
 // The code of the answer row of a many-side place and a one-side place.
 pub fn row_code(m: usize, o: usize) -> usize
@@ -66,10 +66,10 @@ fn word_from(leads: &[usize], from: usize, o: usize) -> usize
     word_of(&leads[from..to], o)
 }
 
-// The words of the leads behind a leader, from the place `at` on. A word that the array has no room for is left out.
+// The words of leads, from the place `at` on. A word that the array has no room for is left out.
 fn put_words(leads: &[usize], o: usize, at: usize, marks: &mut [usize])
     requires { ⌜ length (now leads) ≤ 512 ⌝ }
-    requires { ⌜ at ≤ 1048576 ⌝ }
+    requires { ⌜ at ≤ 2097152 ⌝ }
     ensures { λ _. ⌜ WordsPut (now (leads .entry)) o at (now (marks .entry)) (now (marks .exit)) ⌝ }
 {
     let mut from: usize = 0;
@@ -81,32 +81,20 @@ fn put_words(leads: &[usize], o: usize, at: usize, marks: &mut [usize])
     }
 }
 
-// The marks of the leader o: which of the places behind it have it as their leader.
-fn mark_row(leads: &[usize], o: usize, at: usize, marks: &mut [usize])
+// The marks of the leader o, from the place `at` on: which of the places behind it, up to `last`, have it as their
+// leader. Where there are none, nothing is written.
+pub fn mark_row(leads: &[usize], o: usize, last: usize, at: usize, marks: &mut [usize])
     requires { ⌜ length (now leads) ≤ 512 ⌝ }
-    requires { ⌜ at ≤ 1048576 ⌝ }
-    ensures { λ _. ⌜ RowMarked (now (leads .entry)) o at (now (marks .entry)) (now (marks .exit)) ⌝ }
+    requires { ⌜ last < length (now leads) ⌝ }
+    requires { ⌜ at ≤ 2097152 ⌝ }
+    ensures { λ _. ⌜
+        WordsPut (membersTo o last (now (leads .entry))) o at (now (marks .entry)) (now (marks .exit))
+        ⌝ }
 {
-    if o < leads.len() {
+    if o < last {
         let behind = o + 1;
-        put_words(&leads[behind..], o, at, marks);
-    }
-}
-
-// The marks of the answer rows from n up to c, whose codes are in the list.
-pub fn mark_rows(leads: &[usize], list: &[usize], n: usize, c: usize, marks: &mut [usize])
-    requires few { ⌜ length (now leads) ≤ 512 ⌝ }
-    requires listed { ⌜ length (now list) ≤ 512 ⌝ }
-    requires order { ⌜ n ≤ c ⌝ }
-    ensures { λ _. ⌜ RowsMarked (now (leads .entry)) (now (list .entry)) n c (now (marks .entry)) (now (marks .exit)) ⌝ }
-{
-    let mut k = n;
-    while k < c {
-        if list.len() <= k {
-            return;
-        }
-        mark_row(leads, one_place(list[k]), k * 8, marks);
-        k += 1;
+        let end = last + 1;
+        put_words(&leads[behind..end], o, at, marks);
     }
 }
 

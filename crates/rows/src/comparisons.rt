@@ -82,26 +82,29 @@ fn to_comparison_value(holds: bool, left: u64, as_bool: bool) -> u64
     ensures { λ r. ⌜ r ≡ comparisonValue «as_bool» holds left ⌝ }
 {
     if as_bool {
-        reading::pick(
-            reading::is_missing(left),
-            reading::MISSING,
-            one_or_zero(holds),
-        )
+        reading::choose(reading::gap(left), reading::MISSING, one_or_zero(holds))
     } else {
         reading::pick(holds, left, reading::MISSING)
     }
 }
 
+// With bool a missing left reading gives none, so that two missing ones need not be told.
 pub(crate) fn compare_eq(left: u64, right: u64, as_bool: bool) -> u64
     ensures { λ r. ⌜ r ≡ compared «as_bool» equal left right ⌝ }
 {
-    to_comparison_value(op_eq(left, right), left, as_bool)
+    if as_bool {
+        return to_comparison_value(same(left, right), left, true);
+    }
+    to_comparison_value(op_eq(left, right), left, false)
 }
 
 pub(crate) fn compare_neq(left: u64, right: u64, as_bool: bool) -> u64
     ensures { λ r. ⌜ r ≡ compared «as_bool» unequal left right ⌝ }
 {
-    to_comparison_value(op_neq(left, right), left, as_bool)
+    if as_bool {
+        return to_comparison_value(!same(left, right), left, true);
+    }
+    to_comparison_value(op_neq(left, right), left, false)
 }
 
 pub(crate) fn compare_lt(left: u64, right: u64, as_bool: bool) -> u64

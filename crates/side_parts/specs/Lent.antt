@@ -1,5 +1,5 @@
 -- Both sides of a call as they are lent, with their key numbers, and what is asked of them. Assumes nothing.
-use Prim.Native.Nat.{ℕ, _+_, _*_, _≤_, _<_}
+use Prim.Native.Nat.{ℕ, _+_, _-_, _*_, _≤_, _<_}
 use mathlib.Core.Path.{_≡_}
 use mathlib.Core.List.{List, []}
 use lib.ListN.{length, getD}
@@ -9,6 +9,7 @@ use Rattle.model.specs.Labels.{Labels, WellFormed}
 use Rattle.model.specs.Record.{encode}
 use Rattle.model.specs.Vector.{Series, Shape, seriesOf}
 use Rattle.record_tags.specs.Lenient.{labelsOf}
+use Rattle.side_parts.specs.declared.Shape as Code
 use Rattle.side_parts.specs.Sides.{recordAt, labelsIn, Positions}
 
 -- a side: its label array, the positions of its records, the key numbers of its series, and their rows
@@ -50,6 +51,10 @@ sideAt i arrays at keys rows = record { array = lent arrays i; at = lent at i; k
 abbrev pub sides : Shape → Slices → Slices → Slices → Slices → Sides
 sides shape arrays at keys rows = record { shape = shape; left = sideAt 0 arrays at keys rows; right = sideAt 1 arrays at keys rows }
 
+-- the code's shape
+abbrev pub shapeOf : Code.Shape → Shape
+shapeOf x = record { points = x .points }
+
 -- the shape of rows of p readings
 abbrev pub ofPoints : ℕ → Shape
 ofPoints p = record { points = p }
@@ -65,6 +70,10 @@ rowSides p keys rows keys′ rows′ = record {
 -- as they are lent
 abbrev pub unlabelled : ℕ → Slices → Slices → Sides
 unlabelled p keys rows = rowSides p (lent keys 0) (lent rows 0) (lent keys 1) (lent rows 1)
+
+-- label arrays and positions alone: sides without rows
+abbrev pub labelled : Slices → Slices → Sides
+labelled arrays at = sides (ofPoints 0) arrays at [] []
 
 -- a label array within the limit, cut into records
 pub record RecordsHeld (array at : List ℕ) : Type 0 where
@@ -96,3 +105,17 @@ pub record Held (p : ℕ) (x : Side) : Type 0 where
 pub record BothHeld (s : Sides) : Type 0 where
   pub left : Held (s .shape .points) (s .left)
   pub right : Held (s .shape .points) (s .right)
+
+-- a side's records alone; there is one position more than there are records
+pub record RecordsFormed (x : Side) : Type 0 where
+  pub held : RecordsHeld (x .array) (x .at)
+  pub formed : Formed (x .array) (x .at)
+  pub some : 0 < length (x .at)
+
+pub record BothFormed (s : Sides) : Type 0 where
+  pub left : RecordsFormed (s .left)
+  pub right : RecordsFormed (s .right)
+
+-- how many records a side has
+abbrev pub recordCount : Side → ℕ
+recordCount x = length (x .at) - 1

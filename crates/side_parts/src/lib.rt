@@ -1,8 +1,13 @@
-// The record and the row of a series, as parts of a side's label array and readings.
+// The shape of a side's rows; the record and the row of a series, as parts of its label array and readings.
 ghost use mathlib.Core.Path.{_≡_};
 ghost use Prim.Native.Nat.{_+_, _-_, _*_, _≤_, _<_};
 ghost use lib.ListN.{length};
 ghost use Rattle.side_parts.specs.Sides.{recordAt, rowAt, Positions};
+
+// The shape that both sides of a call and its answer have.
+pub struct Shape {
+    pub points: usize,
+}
 
 // The record of series i.
 pub fn record<'a>(array: &'a [u8], at: &[usize], i: usize) -> &'a [u8]

@@ -9,6 +9,8 @@ use lib.ListN.{length, take, drop, length-drop}
 use lib.Seq.{take-all, length-take-le}
 use Rattle.model.specs.Limits.{sizesLength}
 use Rattle.model.specs.Laws.Lists.{front-long}
+use Rattle.side_parts.specs.declared.Shape.{Shape}
+use Rattle.side_parts.specs.Lent.{shapeOf}
 use Rattle.timeseries.specs.Takes.{TakenInto}
 use Rattle.timeseries.specs.TakeLaws.{SideTaken, side-taken, taken-long}
 use Rattle.timeseries.specs.declared.Taken.{Taken}
@@ -23,9 +25,10 @@ module _ (array at : List ℕ) (s : Side array at) (work : List ℕ) (room : len
   fronts-alike work′ room′ =
       length-take-le (length at - 1) work (omega (arith, s .few, room)) ∙ sym (length-take-le (length at - 1) work′ (omega (arith, s .few, room′)))
 
-module _ (s x before after : List ℕ) (room : length before ≡ 513) (t : Taken) (into : TakenInto s x before t after) (n p : ℕ) (e : t ≡ T.Vector n p) where
-  side-is : SideTaken 0 s x after n p
-  side-is = side-taken 0 s x before after room t into n p e
+module _ (s x before after : List ℕ) (room : length before ≡ 513) (t : Taken) (into : TakenInto s x before t after) (n : ℕ)
+    (shape : Shape) (e : t ≡ T.Vector n shape) where
+  side-is : SideTaken 0 s x after n (shapeOf shape)
+  side-is = side-taken 0 s x before after room t into n shape e
 
   pub entry-fits : Fits w64 (n + 1)
   entry-fits = let h = side-is .few in omega (arith, h)

@@ -38,7 +38,7 @@ fn print_query(q: Query) {
     let join = q.join;
     print_join(join);
     print_flag(q.keep_names);
-    print_flag(q.bool);
+    print_flag(q.as_bool);
     print_flag(query::should_reset_metric_group(q));
     print_number(q.join_at);
     print(b"\n");

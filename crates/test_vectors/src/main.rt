@@ -10,10 +10,10 @@ use timeseries::Taken;
 
 fn print_taken(t: Taken) {
     match t {
-        Taken::Vector { series, points } => {
+        Taken::Vector { series, shape } => {
             print(b"vector");
             print_number(series);
-            print_number(points);
+            print_number(shape.points);
         }
         Taken::Cut(i) => {
             print(b"3");

@@ -17,6 +17,7 @@ use Rattle.model.specs.Vector.{Shape, Records, records, badRecord, recordsIn, s
 use Rattle.model.specs.Laws.Vector.{records-read, series-count}
 use Rattle.timeseries.specs.record_walk.Walks as Walks
 use Rattle.timeseries.specs.record_walk.Walks.{whole, walkAnswer, recordsAnswer, WalkedInto}
+use Rattle.side_parts.specs.Lent.{ofPoints}
 use Rattle.timeseries.specs.Takes.{sizes, fault, takenAnswer, vectorAnswer, notedIn, TakenInto}
 use Rattle.timeseries.specs.declared.record_walk.Walked.{Walked}
 use Rattle.timeseries.specs.declared.record_walk.Walked.the-variants as W
@@ -37,7 +38,7 @@ whole-unread n shape x (records ls) e h = rw (ne-eqb (length x) (n * shape .poin
 whole-unread n shape x (badRecord k i) e h = absurd (let z : _≡_ {A = ℕ} 0 1 = cc in omega arith)
 
 whole-read : (n : ℕ) (shape : Shape) (s x : List ℕ) (o : Records) → recordsIn n 0 s ≡ o → whole ≡ recordsAnswer o
-    → length x ≡ n * shape .points → sizes n (shape .points) ≡ vectorAnswer (withReadings 0 n shape x o)
+    → length x ≡ n * shape .points → sizes n shape ≡ vectorAnswer (withReadings 0 n shape x o)
 whole-read n shape s x (records ls) f e h =
     let count : length (seriesOf (shape .points) ls x) ≡ n =
     series-count (shape .points) ls x ∙ records-read n 0 s ls f .count in
@@ -124,10 +125,10 @@ module _ (s x before : List ℕ) where
           take-unread e h =
               taken-as T.Readings (whole-unread (twoBytesAt s 0) shape x found (rw e at walked) (λ z. h (z ∙ sym product)))
 
-          pub take-whole : r ≡ W.Whole → length x ≡ n * p → TakenInto s x before (T.Vector n p) after
+          pub take-whole : r ≡ W.Whole → length x ≡ n * p → TakenInto s x before (T.Vector n (record { points = p })) after
           take-whole e h =
-              taken-as (T.Vector n p)
-              (ap (λ (a : ℕ). sizes a p) hn ∙ ap (sizes (twoBytesAt s 0)) hp
+              taken-as (T.Vector n (record { points = p }))
+              (ap (λ (a : ℕ). sizes a (ofPoints p)) hn ∙ ap (λ (a : ℕ). sizes (twoBytesAt s 0) (ofPoints a)) hp
               ∙ whole-read (twoBytesAt s 0) shape (drop sizesLength s) x found refl (rw e at walked) (h ∙ product))
 
           pub take-record-cut : (i : ℕ) → r ≡ W.Cut i → TakenInto s x before (T.Cut i) after

@@ -22,6 +22,8 @@ use Rattle.side_parts.specs.SideLaws.{starts-count, labels-starts, positions-st
 use Rattle.timeseries.specs.record_walk.Walks.{noted}
 use Rattle.timeseries.specs.Takes.{TakenAnswer, sizes, takenAnswer, vectorAnswer, answerNumber, answerPlace}
 use Rattle.timeseries.specs.Takes.{takenNumber, takenPlace, notedIn, TakenInto}
+use Rattle.side_parts.specs.declared.Shape as Code
+use Rattle.side_parts.specs.Lent.{shapeOf}
 use Rattle.timeseries.specs.declared.Taken.{Taken}
 use Rattle.timeseries.specs.declared.Taken.the-variants as T
 
@@ -115,24 +117,24 @@ taken-parts side s x v e = go (leb sizesLength (length s)) e
     go true e = sized good refl e
     go false e = absurd (let z : _≡_ {A = ℕ} 0 1 = cc in omega arith)
 
--- the vector of n series and p points that is taken on a side
-pub record VectorTaken (side : ℕ) (s x : List ℕ) (n p : ℕ) : Type 0 where
+-- the vector of n series on a shape that is taken on a side
+pub record VectorTaken (side : ℕ) (s x : List ℕ) (n : ℕ) (shape : Shape) : Type 0 where
   pub v : Vector
   pub taken : takeVector side s x ≡ vector v
   pub count : length (v .series) ≡ n
-  pub points : v .shape .points ≡ p
+  pub on : v .shape ≡ shape
   pub parts : Parts (drop sizesLength s) x (notedIn s) v
 
 pub taken-vector : (side : ℕ) (s x : List ℕ) (t : Taken) → takenAnswer t ≡ vectorAnswer (takeVector 0 s x)
-    → (n p : ℕ) → t ≡ T.Vector n p → VectorTaken side s x n p
-taken-vector side s x t ht n p e = go (takeVector 0 s x) refl (rw e at ht)
+    → (n : ℕ) (shape : Code.Shape) → t ≡ T.Vector n shape → VectorTaken side s x n (shapeOf shape)
+taken-vector side s x t ht n shape e = go (takeVector 0 s x) refl (rw e at ht)
   where
-    go : (o : TakenVector) → takeVector 0 s x ≡ o → sizes n p ≡ vectorAnswer o → VectorTaken side s x n p
+    go : (o : TakenVector) → takeVector 0 s x ≡ o → sizes n (shapeOf shape) ≡ vectorAnswer o → VectorTaken side s x n (shapeOf shape)
     go (vector v) f g = record {
       v = v;
       taken = take-side side 0 s x ∙ ap (onSide side) f;
       count = cc;
-      points = cc;
+      on = cc;
       parts = taken-parts 0 s x v f;
     }
     go (faulty k other i) f g = absurd (let z : _≡_ {A = ℕ} 0 1 = cc in omega arith)
@@ -156,27 +158,28 @@ module _ (before w after : List ℕ) (ls : List Labels) (noted-so : w ≡ starts
 pub taken-long : (s x before after : List ℕ) (t : Taken) → TakenInto s x before t after → length after ≡ length before
 taken-long s x before after t into = ap length (into .positions) ∙ length-sets before 0 (notedIn s)
 
--- a side as it is lent after taking: its array, the first n + 1 positions, p and its readings
-pub record SideTaken (side : ℕ) (s x at : List ℕ) (n p : ℕ) : Type 0 where
+-- a side as it is lent after taking: its array, the first n + 1 positions, its shape and its readings
+pub record SideTaken (side : ℕ) (s x at : List ℕ) (n : ℕ) (shape : Shape) : Type 0 where
   pub v : Vector
   pub taken : takeVector side s x ≡ vector v
   pub count : length (v .series) ≡ n
-  pub points : v .shape .points ≡ p
+  pub on : v .shape ≡ shape
   pub few : n ≤ maxSeries
-  pub narrow : p ≤ maxPoints
-  pub rows : length x ≡ n * p
+  pub narrow : shape .points ≤ maxPoints
+  pub rows : length x ≡ n * shape .points
   pub array : drop sizesLength s ≡ labelBytes (v .series)
   pub starting : take (n + 1) at ≡ starts 0 (labelsOfAll (v .series))
   pub positions : Positions (drop sizesLength s) (take (n + 1) at)
   pub entries : length (take (n + 1) at) ≡ n + 1
   pub labels : labelsIn (drop sizesLength s) (take (n + 1) at) ≡ labelsOfAll (v .series)
-  pub series : lentSeries (drop sizesLength s) (take (n + 1) at) p x ≡ v .series
+  pub series : lentSeries (drop sizesLength s) (take (n + 1) at) (shape .points) x ≡ v .series
 
 module _ (side : ℕ) (s x before after : List ℕ) (room : length before ≡ 513) (t : Taken) (into : TakenInto s x before t after)
-    (n p : ℕ) (e : t ≡ T.Vector n p) where
-  pub side-taken : SideTaken side s x after n p
+    (n : ℕ) (shape : Code.Shape) (e : t ≡ T.Vector n shape) where
+  pub side-taken : SideTaken side s x after n (shapeOf shape)
   side-taken =
-      let w : VectorTaken side s x n p = taken-vector side s x t (into .answer) n p e in
+      let w : VectorTaken side s x n (shapeOf shape) = taken-vector side s x t (into .answer) n shape e in
+      let points : w .v .shape .points ≡ shape .points = ap (λ (y : Shape). y .points) (w .on) in
       let ls = labelsOfAll (w .v .series) in
       let many : length ls ≡ n = length-map (w .v .series) (λ y. y .labels) ∙ w .count in
       let few : n ≤ maxSeries = omega (arith, w .parts .few, w .count) in
@@ -188,14 +191,14 @@ module _ (side : ℕ) (s x before after : List ℕ) (room : length before ≡ 51
         v = w .v;
         taken = w .taken;
         count = w .count;
-        points = w .points;
+        on = w .on;
         few = few;
-        narrow = omega (arith, w .parts .narrow, w .points);
-        rows = w .parts .rows ∙ ap (λ (m : ℕ). m * w .v .shape .points) (w .count) ∙ ap (λ (m : ℕ). n * m) (w .points);
+        narrow = omega (arith, w .parts .narrow, points);
+        rows = w .parts .rows ∙ ap (λ (m : ℕ). m * w .v .shape .points) (w .count) ∙ ap (λ (m : ℕ). n * m) points;
         array = array;
         starting = front;
         positions = rw (front, array) (positions-starts (w .v .series));
         entries = rw front (starts-count 0 ls ∙ ap (λ (m : ℕ). m + 1) many);
         labels = found;
-        series = ap (λ (y : List Labels). seriesOf p y x) found ∙ ap (λ (m : ℕ). seriesOf m ls x) (sym (w .points)) ∙ w .parts .series;
+        series = ap (λ (y : List Labels). seriesOf (shape .points) y x) found ∙ ap (λ (m : ℕ). seriesOf m ls x) (sym points) ∙ w .parts .series;
       }

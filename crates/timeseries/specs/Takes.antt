@@ -7,35 +7,36 @@ use lib.Dec.{leb, eqb}
 use lib.ListN.{length, drop}
 use lib.Seq.{sets}
 use Rattle.model.specs.Limits.{maxSeries, maxPoints, sizesLength}
-use Rattle.model.specs.Vector.{TakenVector, vector, faulty, twoBytesAt, takeVector}
+use Rattle.model.specs.Vector.{Shape, TakenVector, vector, faulty, twoBytesAt, takeVector}
+use Rattle.side_parts.specs.Lent.{shapeOf}
 use Rattle.timeseries.specs.record_walk.Walks.{noted}
 use Rattle.timeseries.specs.declared.Taken.{Taken}
 use Rattle.timeseries.specs.declared.Taken.the-variants as T
 
--- the numbers of series and points; or 01's number and the series place. The side is the caller's to say.
+-- the number of series and the shape; or 01's number and the series place. The side is the caller's to say.
 pub data TakenAnswer : Type 0 where
-  sizes : ℕ → ℕ → TakenAnswer
+  sizes : ℕ → Shape → TakenAnswer
   fault : ℕ → ℕ → TakenAnswer
 
 -- the code's answers. 01: 3, sizes cut ..; 4, an empty key ..; 5, readings not n times p. Fields: .. series place (0 for .. number 5).
 abbrev pub takenAnswer : Taken → TakenAnswer
-takenAnswer (T.Vector n p) = sizes n p
+takenAnswer (T.Vector n shape) = sizes n (shapeOf shape)
 takenAnswer (T.Cut i) = fault 3 i
 takenAnswer (T.BadKey i) = fault 4 i
 takenAnswer T.Readings = fault 5 0
 
 -- the answer for what is taken
 abbrev pub vectorAnswer : TakenVector → TakenAnswer
-vectorAnswer (vector v) = sizes (length (v .series)) (v .shape .points)
+vectorAnswer (vector v) = sizes (length (v .series)) (v .shape)
 vectorAnswer (faulty k side i) = fault k i
 
 -- an answer's number, 0 where nothing is refused, and its place
 abbrev pub answerNumber : TakenAnswer → ℕ
-answerNumber (sizes n p) = 0
+answerNumber (sizes n shape) = 0
 answerNumber (fault k i) = k
 
 abbrev pub answerPlace : TakenAnswer → ℕ
-answerPlace (sizes n p) = 0
+answerPlace (sizes n shape) = 0
 answerPlace (fault k i) = i
 
 abbrev pub takenNumber : Taken → ℕ

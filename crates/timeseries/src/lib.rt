@@ -4,6 +4,7 @@ mod record_walk; // the records of a label array, walked by it
 
 use crate::record_walk::Walked;
 use operator::Operator;
+use side_parts::Shape;
 ghost use mathlib.Core.Path.{_≡_};
 ghost use Prim.Native.Nat.{_+_, _-_, _*_, _<_};
 ghost use Rattle.model.specs.Vector.{twoBytesAt};
@@ -26,7 +27,7 @@ fn two_bytes_at(s: &[u8], at: usize) -> usize
 
 // What taking a vector comes to: its shape, or a fault and its place.
 pub enum Taken {
-    Vector { series: usize, points: usize },
+    Vector { series: usize, shape: Shape },
     Cut(usize),
     BadKey(usize),
     Readings,
@@ -58,7 +59,7 @@ pub fn take_vector(labels: &[u8], readings: &[u64], at: &mut [usize; 513]) -> Ta
             }
             Taken::Vector {
                 series: n,
-                points: p,
+                shape: Shape { points: p },
             }
         }
         Walked::Cut(i) => Taken::Cut(i),

@@ -140,9 +140,10 @@ pub(crate) fn put_outcome(out: &mut [u8], x: Outcome, labels: &[u8], readings: &
     match answers::told_as(x) {
         Told::Answer {
             series,
-            points,
+            shape,
             bytes,
         } => {
+            let points = shape.points;
             let k = series * points;
             put_answer(out, series, points, &labels[..bytes], &readings[..k])
         }

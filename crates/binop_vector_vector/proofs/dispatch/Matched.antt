@@ -31,10 +31,10 @@ use Rattle.set_tags.specs.naming.Namings.{namingOf}
 use Rattle.side_parts.specs.Lent.{Sides, exchanged, sideSeries, BothHeld}
 use Rattle.answers.specs.declared.Outcome.{Outcome}
 use Rattle.answers.specs.Outcomes.{Ran}
-use Rattle.joins.specs.declared.join_rows.Work.{Work}
-use Rattle.joins.specs.Works.{manySide, codedWork}
-use Rattle.joins.specs.Queries.{WorkOf, joined-outcome}
-use Rattle.one_to_one.specs.adjusted_labels.Edits.{pairQuery}
+use Rattle.join_series.specs.declared.Work.{Work}
+use Rattle.join_series.specs.Works.{manySide, codedWork}
+use Rattle.join_series.specs.Queries.{WorkOf, joined-outcome}
+use Rattle.pair_series.specs.adjusted_labels.Edits.{pairQuery}
 use Rattle.keyed_sides.specs.Keyed.{dropsMissing, SidesKeyed}
 use Rattle.binop_vector_vector.specs.dispatch.Runs.{Asked, ranSides}
 use Rattle.binop_vector_vector.specs.dispatch.Grouped.{askedWork, joinedOver}
@@ -115,9 +115,9 @@ module _ (m : Matching) (names : List ℕ) where
   skips-ignoring e = rw (e, no-names names)
 
 -- `work_of`
-pub work-is : (q : Query) (left : Bool) (join skip : List ℕ) (reset : Bool) → reset ≡ resets (q .operator) (q .«keep_names») (q .bool)
+pub work-is : (q : Query) (left : Bool) (join skip : List ℕ) (reset : Bool) → reset ≡ resets (q .operator) (q .«keep_names») (q .«as_bool»)
     → (n : Naming) → n ≡ namingOf (namesOf join) (namesOf skip) reset → (allowance : ℕ) → allowance ≡ allowedBy q
-    → record { operator = q .operator; bool = q .bool; left = left; naming = n; allowance = allowance }
+    → record { operator = q .operator; «as_bool» = q .«as_bool»; left = left; naming = n; allowance = allowance }
     ≡ askedWork (namesOf join) (namesOf skip) left q
 work-is q left join skip reset hr n hn allowance ha = rw (hn, hr, ha)
 

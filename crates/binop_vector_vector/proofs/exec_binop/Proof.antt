@@ -43,7 +43,7 @@ returns-3 c =
 
 returns-4 : tie.Need-returns-4
 returns-4 c =
-    let r = c .before .before in
+    let r = c .before .before .before .before in
     let l = r .before .before .before .before .before in
     let q = l .before .before .before .before .before in
     let start = q .before .before .before .before .before in
@@ -58,7 +58,7 @@ returns-4 c =
 
 add-e : tie.Need-add-e
 add-e c =
-    let r = c .before .before in
+    let r = c .before .before .before .before in
     let l = r .before .before .before .before .before in
     let q = l .before .before .before .before .before in
     let start = q .before .before .before .before .before in
@@ -67,7 +67,7 @@ add-e c =
 
 add-f : tie.Need-add-f
 add-f c =
-    let r = c .before .before in
+    let r = c .before .before .before .before in
     let l = r .before .before .before .before .before in
     let q = l .before .before .before .before .before in
     let start = q .before .before .before .before .before in
@@ -76,7 +76,7 @@ add-f c =
 
 sub-t24 : tie.Need-sub-t24
 sub-t24 c =
-    let r = c .before .before in
+    let r = c .before .before .before .before in
     let l = r .before .before .before .before .before in
     let q = l .before .before .before .before .before in
     let start = q .before .before .before .before .before in
@@ -85,7 +85,7 @@ sub-t24 c =
 
 part-t25-start : tie.Need-part-t25-start
 part-t25-start c =
-    let r = c .before .before in
+    let r = c .before .before .before .before in
     let l = r .before .before .before .before .before in
     let q = l .before .before .before .before .before in
     let start = q .before .before .before .before .before in
@@ -94,7 +94,7 @@ part-t25-start c =
 
 sub-t28 : tie.Need-sub-t28
 sub-t28 c =
-    let r = c .before .before .before in
+    let r = c .before .before .before .before .before in
     let l = r .before .before .before .before .before in
     let q = l .before .before .before .before .before in
     let start = q .before .before .before .before .before in
@@ -103,7 +103,7 @@ sub-t28 c =
 
 part-t29-start : tie.Need-part-t29-start
 part-t29-start c =
-    let r = c .before .before .before in
+    let r = c .before .before .before .before .before in
     let l = r .before .before .before .before .before in
     let q = l .before .before .before .before .before in
     let start = q .before .before .before .before .before in
@@ -112,7 +112,7 @@ part-t29-start c =
 
 array-share-prefix-left-at : tie.Need-array-share-prefix-left-at
 array-share-prefix-left-at c =
-    let r = c .before .before .before .before in
+    let r = c .before .before .before .before .before .before in
     let l = r .before .before .before .before .before in
     let q = l .before .before .before .before .before in
     let start = q .before .before .before .before .before in
@@ -121,7 +121,7 @@ array-share-prefix-left-at c =
 
 slice-aggregate-run : tie.Need-slice-aggregate-run
 slice-aggregate-run c =
-    let r = c .before .before .before .before .before in
+    let r = c .before .before .before .before .before .before .before in
     let l = r .before .before .before .before .before in
     let q = l .before .before .before .before .before in
     let start = q .before .before .before .before .before in
@@ -130,7 +130,7 @@ slice-aggregate-run c =
 
 array-share-prefix-right-at : tie.Need-array-share-prefix-right-at
 array-share-prefix-right-at c =
-    let r = c .before .before .before .before .before in
+    let r = c .before .before .before .before .before .before .before in
     let l = r .before .before .before .before .before in
     let q = l .before .before .before .before .before in
     let start = q .before .before .before .before .before in
@@ -139,7 +139,7 @@ array-share-prefix-right-at c =
 
 slice-aggregate-run-2 : tie.Need-slice-aggregate-run-2
 slice-aggregate-run-2 c =
-    let r = c .before .before .before .before .before .before in
+    let r = c .before .before .before .before .before .before .before .before in
     let l = r .before .before .before .before .before in
     let q = l .before .before .before .before .before in
     let start = q .before .before .before .before .before in
@@ -149,7 +149,7 @@ slice-aggregate-run-2 c =
 run-requires : tie.Need-run-requires
 run-requires c κs =
     let test = c .before .before .before .before .before .before in
-    let r = test .before .before in
+    let r = test .before .before .before .before in
     let l = r .before .before .before .before .before in
     let q = l .before .before .before .before .before in
     let start = q .before .before .before .before .before in
@@ -167,7 +167,7 @@ returns-5 : tie.Need-returns-5
 returns-5 c =
     let ran = c .before .before .before .before in
     let test = ran .before .before .before .before .before .before .before in
-    let r = test .before .before in
+    let r = test .before .before .before .before in
     let l = r .before .before .before .before .before in
     let q = l .before .before .before .before .before in
     let start = q .before .before .before .before .before in

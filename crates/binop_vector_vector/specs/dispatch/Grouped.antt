@@ -11,14 +11,14 @@ use Rattle.query.specs.declared.Query.{Query}
 use Rattle.query.specs.allowance.Allowances.{allowedBy}
 use Rattle.set_tags.specs.naming.Namings.{namingOf}
 use Rattle.side_parts.specs.Lent.{Sides}
-use Rattle.joins.specs.declared.join_rows.Work.{Work}
+use Rattle.join_series.specs.declared.Work.{Work}
 
 abbrev pub askedWork : Names → Names → Bool → Query → Work
 askedWork join skip left q = record {
   operator = q .operator;
-  bool = q .bool;
+  «as_bool» = q .«as_bool»;
   left = left;
-  naming = namingOf join skip (resets (q .operator) (q .«keep_names») (q .bool));
+  naming = namingOf join skip (resets (q .operator) (q .«keep_names») (q .«as_bool»));
   allowance = allowedBy q;
 }
 

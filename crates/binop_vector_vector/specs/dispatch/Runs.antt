@@ -8,7 +8,7 @@ use Rattle.model.specs.Query as Model
 use Rattle.model.specs.Vector.{Shape}
 use Rattle.semantics.specs.Call.{Outcome, concluded, verdict}
 use Rattle.side_parts.specs.Sides.{lentSeries}
-use Rattle.side_parts.specs.Lent.{Sides, Slices, lent, sideSeries, ofPoints}
+use Rattle.side_parts.specs.Lent.{Sides, Slices, lent, sideSeries}
 use Rattle.query.specs.declared.Query.{Query}
 use Rattle.query.specs.Queries.{ListsWithin}
 
@@ -31,6 +31,7 @@ ranSides q s labelRoom room =
     concluded labelRoom room (s .shape) (verdict q (sideSeries (s .shape .points) (s .left)) (sideSeries (s .shape .points) (s .right)))
 
 -- and over two that are taken, before their keys are numbered
-abbrev pub ranTaken : Model.Query → ℕ → List ℕ → List ℕ → List ℕ → List ℕ → List ℕ → List ℕ → ℕ → ℕ → Outcome
-ranTaken q p array at rows array′ at′ rows′ labelRoom room =
-    concluded labelRoom room (ofPoints p) (verdict q (lentSeries array at p rows) (lentSeries array′ at′ p rows′))
+abbrev pub ranTaken : Model.Query → Shape → List ℕ → List ℕ → List ℕ → List ℕ → List ℕ → List ℕ → ℕ → ℕ → Outcome
+ranTaken q shape array at rows array′ at′ rows′ labelRoom room =
+    concluded labelRoom room shape
+    (verdict q (lentSeries array at (shape .points) rows) (lentSeries array′ at′ (shape .points) rows′))

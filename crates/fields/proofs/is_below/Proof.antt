@@ -14,41 +14,8 @@ Inv-loop a b i₀ i = (i ≤ length a) × (below a b ≡ below (drop i a) (drop 
 abbrev μ-loop : tie.MeasureT-loop
 μ-loop a b i₀ i = length a - i
 
-loop-holds : tie.Need-loop-holds Inv-loop μ-loop
-loop-holds c = search needs
-
-returns : tie.Need-returns Inv-loop μ-loop
-returns c = search below-exit-short
-
-shared-slice-read-if2 : tie.Need-shared-slice-read-if2 Inv-loop μ-loop
-shared-slice-read-if2 c = search needs
-
-shared-slice-read-if2-2 : tie.Need-shared-slice-read-if2-2 Inv-loop μ-loop
-shared-slice-read-if2-2 c = search needs
-
-returns-2 : tie.Need-returns-2 Inv-loop μ-loop
-returns-2 c = search below-exit-less
-
-shared-slice-read-if3 : tie.Need-shared-slice-read-if3 Inv-loop μ-loop
-shared-slice-read-if3 c = search needs
-
-shared-slice-read-if3-2 : tie.Need-shared-slice-read-if3-2 Inv-loop μ-loop
-shared-slice-read-if3-2 c = search needs
-
-returns-3 : tie.Need-returns-3 Inv-loop μ-loop
-returns-3 c = search below-exit-more
-
-add-i : tie.Need-add-i Inv-loop μ-loop
-add-i c = search needs
-
-loop-less : tie.Need-loop-less Inv-loop μ-loop
-loop-less c = search needs
-
 loop-again : tie.Need-loop-again Inv-loop μ-loop
 loop-again c = (search needs, search below-turn)
-
-returns-4 : tie.Need-returns-4 Inv-loop μ-loop
-returns-4 c = search below-exit-end
 
 pub is-below-spec : {M : Type 1} → statement M
 is-below-spec =
@@ -56,15 +23,15 @@ is-below-spec =
     (tie.spec
     Inv-loop
     μ-loop
-    loop-holds
-    returns
-    shared-slice-read-if2
-    shared-slice-read-if2-2
-    returns-2
-    shared-slice-read-if3
-    shared-slice-read-if3-2
-    returns-3
-    add-i
-    loop-less
+    (λ c. search needs)
+    (λ c. search below-exit-short)
+    (λ c. search needs)
+    (λ c. search needs)
+    (λ c. search below-exit-less)
+    (λ c. search needs)
+    (λ c. search needs)
+    (λ c. search below-exit-more)
+    (λ c. search needs)
+    (λ c. search needs)
     loop-again
-    returns-4)
+    (λ c. search below-exit-end))

@@ -17,44 +17,8 @@ Inv-loop out₀ at rec matching list p₀ n₀ o₀ out p n o =
 abbrev μ-loop : tie.MeasureT-loop
 μ-loop out₀ at rec matching list p₀ n₀ o₀ out p n o = n
 
-tags-of-requires : tie.Need-tags-of-requires Inv-loop μ-loop
-tags-of-requires c κs = search needs
-
 loop-holds : tie.Need-loop-holds Inv-loop μ-loop
 loop-holds c = put-start _ _ _ _ _ _ (c .tags-of .ensures .tags) (search needs)
-
-next-chosen-requires : tie.Need-next-chosen-requires Inv-loop μ-loop
-next-chosen-requires c κs = search needs
-
-enum-known-start : tie.Need-enum-known-start Inv-loop μ-loop
-enum-known-start c = search needs
-
-enum-told : tie.Need-enum-told Inv-loop μ-loop
-enum-told c = search needs
-
-same-length : tie.Need-same-length Inv-loop μ-loop
-same-length c = search needs
-
-returns : tie.Need-returns Inv-loop μ-loop
-returns c = search put-ended
-
-sub-put-bytes : tie.Need-sub-put-bytes Inv-loop μ-loop
-sub-put-bytes c = search span-order
-
-part-put-bytes-start : tie.Need-part-put-bytes-start Inv-loop μ-loop
-part-put-bytes-start c = search span-order
-
-part-put-bytes-end : tie.Need-part-put-bytes-end Inv-loop μ-loop
-part-put-bytes-end c = search span-within
-
-put-bytes-requires : tie.Need-put-bytes-requires Inv-loop μ-loop
-put-bytes-requires c κs = search one-room
-
-loop-less : tie.Need-loop-less Inv-loop μ-loop
-loop-less c = search next-fewer
-
-loop-again : tie.Need-loop-again Inv-loop μ-loop
-loop-again c = search put-one-tag
 
 pub put-chosen-spec : {M : Type 1} → statement M
 put-chosen-spec =
@@ -62,16 +26,16 @@ put-chosen-spec =
     (tie.spec
     Inv-loop
     μ-loop
-    tags-of-requires
+    (λ c κs. search needs)
     loop-holds
-    next-chosen-requires
-    enum-known-start
-    enum-told
-    same-length
-    returns
-    sub-put-bytes
-    part-put-bytes-start
-    part-put-bytes-end
-    put-bytes-requires
-    loop-less
-    loop-again)
+    (λ c κs. search needs)
+    (λ c. search needs)
+    (λ c. search needs)
+    (λ c. search needs)
+    (λ c. search put-ended)
+    (λ c. search span-order)
+    (λ c. search span-order)
+    (λ c. search span-within)
+    (λ c κs. search one-room)
+    (λ c. search next-fewer)
+    (λ c. search put-one-tag))

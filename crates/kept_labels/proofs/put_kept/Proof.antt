@@ -5,19 +5,10 @@ use Rattle.kept_labels.proofs.Puts.{record-name-room, record-count-room
 use Rattle.kept_labels.proofs.put_kept.Statement.{statement}
 use Rattle.kept_labels.proofs.put_kept.Tie as tie
 
-chosen-size-requires : tie.Need-chosen-size-requires
-chosen-size-requires c κs = search needs
-
 put-name-requires : tie.Need-put-name-requires
 put-name-requires c κs = let counted = c .before in
     let start = counted .before .before .before .before in
     record-name-room _ _ (counted .chosen-size .ensures .tags) (start .args .out .now) _ (start .pre)
-
-cast-put-byte : tie.Need-cast-put-byte
-cast-put-byte c = search count-fits
-
-put-byte-requires : tie.Need-put-byte-requires
-put-byte-requires c κs = search record-count-room
 
 put-chosen-requires : tie.Need-put-chosen-requires
 put-chosen-requires c κs = let byte = c .before .before .before in
@@ -29,20 +20,14 @@ put-chosen-requires c κs = let byte = c .before .before .before in
     let p₂ = byte .put-byte .ensures in
     record-tags-room _ _ hk _ _ room _ _ p₁ _ _ p₂
 
-same-length : tie.Need-same-length
-same-length c = search needs
-
-returns : tie.Need-returns
-returns c = search record-put
-
 pub put-kept-spec : {M : Type 1} → statement M
 put-kept-spec =
     tie.close
     (tie.spec
-    chosen-size-requires
+    (λ c κs. search needs)
     put-name-requires
-    cast-put-byte
-    put-byte-requires
+    (λ c. search count-fits)
+    (λ c κs. search record-count-room)
     put-chosen-requires
-    same-length
-    returns)
+    (λ c. search needs)
+    (λ c. search record-put))

@@ -81,6 +81,14 @@ rightFirst c = sideFirst (rightCode c)
 abbrev pub rightLast : ℕ → ℕ
 rightLast c = sideLast (rightCode c)
 
+-- of two codes packed
+module _ (left right : ℕ) (small : right < codes) where
+  pub both-left : leftCode (bothCode left right) ≡ left
+  both-left = omega arith
+
+  pub both-right : rightCode (bothCode left right) ≡ right
+  both-right = omega arith
+
 module _ (keys : List ℕ) (few : length keys ≤ 512) (k : ℕ) where
   pub first-small : firstOf keys k ≤ 512
   first-small = omega (arith, first-most k keys)

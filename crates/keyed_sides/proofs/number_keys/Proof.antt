@@ -5,14 +5,8 @@ use Rattle.model.specs.Laws.Lists.{front-long}
 use Rattle.keyed_sides.proofs.number_keys.Statement.{statement}
 use Rattle.keyed_sides.proofs.number_keys.Tie as tie
 
-array-borrow-prefix-left-hashes : tie.Need-array-borrow-prefix-left-hashes
-array-borrow-prefix-left-hashes c = search needs
-
 slice-aggregate-number-hashed : tie.Need-slice-aggregate-number-hashed
 slice-aggregate-number-hashed c = front-long _ _ (search needs)
-
-array-borrow-prefix-right-hashes : tie.Need-array-borrow-prefix-right-hashes
-array-borrow-prefix-right-hashes c = search needs
 
 slice-aggregate-number-hashed-2 : tie.Need-slice-aggregate-number-hashed-2
 slice-aggregate-number-hashed-2 c = front-long _ _ (search needs)
@@ -21,24 +15,15 @@ number-hashed-requires : tie.Need-number-hashed-requires
 number-hashed-requires c κs =
     (search needs, (search needs, (sym (front-long _ _ (search needs)), (search needs, (search needs, sym (front-long _ _ (search needs)))))))
 
-same-length : tie.Need-same-length
-same-length c = search needs
-
-same-length-2 : tie.Need-same-length-2
-same-length-2 c = search needs
-
-returns : tie.Need-returns
-returns c = search needs
-
 pub number-keys-spec : {M : Type 1} → statement M
 number-keys-spec =
     tie.close
     (tie.spec
-    array-borrow-prefix-left-hashes
+    (λ c. search needs)
     slice-aggregate-number-hashed
-    array-borrow-prefix-right-hashes
+    (λ c. search needs)
     slice-aggregate-number-hashed-2
     number-hashed-requires
-    same-length
-    same-length-2
-    returns)
+    (λ c. search needs)
+    (λ c. search needs)
+    (λ c. search needs))

@@ -4,7 +4,7 @@ use Prim.Native.Nat.{_+_, _-_, _≤_}
 use native.Mathlib.Omega.{arith}
 use lib.ListN.{length}
 use borrow.Author.Needs.{needs}
-use Rattle.merge.proofs.Merging.{Counted, count-starts, count-turn, count-fits, count-ends}
+use Rattle.merge.proofs.Merging.{Counted, count-starts, count-turn, count-fits, count-below, count-ends}
 use Rattle.merge.proofs.overlaps.Statement.{statement}
 use Rattle.merge.proofs.overlaps.Tie as tie
 
@@ -26,8 +26,9 @@ overlaps-spec =
     (λ c. search needs)
     (λ c. omega arith)
     (λ c κs. tt)
-    (λ c. let l = c .before .before .before .before in let h : l .loop .n + c .both .result ≤ l .loop .i + 1 = search count-fits in omega arith)
+    (λ c. let l = c .before .before .before .before in let h : l .loop .n + c .either-gap .result ≤ l .loop .i + 1 = search count-fits in omega arith)
     (λ c. omega arith)
     (λ c. omega arith)
     (λ c. search count-turn)
+    (λ c. search count-below)
     (λ c. search count-ends))

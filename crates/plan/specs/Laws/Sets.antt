@@ -30,7 +30,7 @@ use Rattle.side_parts.specs.Sides.{rowAt}
 use Rattle.side_parts.specs.Lent.{Sides, BothHeld, sideLabels, sideSeries}
 use Rattle.plan.specs.Conclude.{conclude}
 use Rattle.plan.specs.Pairs.{noLabels}
-use Rattle.plan.specs.Sets.{SetWork, setWork, isScalar, workFor, placesOf, metPlaces, firstAt, setPoint, setRow, dropsEmpty}
+use Rattle.plan.specs.Sets.{SetWork, setWork, isScalar, workBy, ruleBy, workFor, placesOf, metPlaces, Hit, firstAt, setPoint, setRow, dropsEmpty}
 use Rattle.plan.specs.Sets.{leftRow, leftAnswers, leftsFrom, rightsFrom, setRows, setLabels, setSeries, setOutcome}
 use Rattle.plan.specs.Laws.Settling.{firstClash, goodSeries, firstOver, first-append, clash-gather, good-gather}
 use Rattle.plan.specs.Laws.Settling.{clash-produced, good-produced, settled-concludes}
@@ -69,11 +69,13 @@ keyed-places side k i (x ∷ ks) (b ∷ bs) e =
 reading-at : (p : ℕ) (rows : List ℕ) (j i : ℕ) → i < p → getD (rowAt p rows j) i noReading ≡ getD rows (j * p + i) noReading
 reading-at p rows j i h = rw (getD-take, getD-drop)
 
-abbrev readingOf : Option Found → Option ℕ
-readingOf none = none
-readingOf (some f) = some (f .reading)
+-- what the definitions' search finds, by the number of its place
+abbrev hitOf : Option Found → Option Hit
+hitOf none = none
+hitOf (some f) = some (record { place = f .place .number; reading = f .reading })
 
-first-at : (p : ℕ) (rows : List ℕ) (i : ℕ) → i < p → (xs : List Placed) → Stand p rows xs → readingOf (firstReading xs i) ≡ firstAt p rows i (numbersOf xs)
+-- both searches find the same reading, at the same place
+first-at : (p : ℕ) (rows : List ℕ) (i : ℕ) → i < p → (xs : List Placed) → Stand p rows xs → hitOf (firstReading xs i) ≡ firstAt p rows i (numbersOf xs)
 unfolding firstReading firstAt numbersOf
 first-at p rows i h [] s = refl
 first-at p rows i h (x ∷ xs) s =
@@ -84,7 +86,7 @@ first-at p rows i h (x ∷ xs) s =
     (λ e. rw (same, e))
 
 point-is : (rule : SetRule) (o : Option Found) (x : ℕ) (xs : List Placed) (i : ℕ) → firstReading xs i ≡ o
-    → setReading rule xs i x ≡ setPoint rule (readingOf o) x
+    → setReading rule xs i x ≡ setPoint rule (hitOf o) x
 unfolding someReading
 point-is whereFound none x xs i h = rw h
 point-is whereFound (some f) x xs i h = rw h
@@ -149,6 +151,14 @@ alone-series : (r : Place) (rule : SetRule) (p : ℕ) (rows : List ℕ) (b : Ser
 alone-series r whereFound p rows b = refl
 alone-series r whereNone p rows b = refl
 alone-series r filled p rows b = refl
+
+-- the rule of an operator is that of its work
+pub rule-by : (kind : Kind) (scalar empty : Bool) → workBy kind scalar empty .rule ≡ ruleBy kind
+rule-by (setRule rule) scalar empty = refl
+rule-by (fallback rule) scalar empty = refl
+rule-by (arithmetic a) scalar empty = refl
+rule-by (comparison c) scalar empty = refl
+rule-by notCarried scalar empty = refl
 
 -- what a rule falls back to: nothing, or the right side's only series
 pub data FallsTo : Bool → Option Series → List Series → Type 0 where

@@ -7,9 +7,6 @@ use Rattle.query.proofs.take_modifier.Tie as tie
 take-lists-requires : tie.Need-take-lists-requires
 take-lists-requires c κs = (search in-range, search found-at)
 
-returns-6 : tie.Need-returns-6
-returns-6 c = search (no-lists, in-range)
-
 pub take-modifier-spec : {M : Type 1} → statement M
 take-modifier-spec =
     tie.close
@@ -26,4 +23,4 @@ take-modifier-spec =
     take-lists-requires
     (λ c. search needs)
     (λ c. search needs)
-    returns-6)
+    (λ c. search (no-lists, in-range)))

@@ -1,6 +1,6 @@
 -- `mark_row` meets its contract. Assumes nothing.
 use borrow.Author.Needs.{needs}
-use Rattle.row_marks.proofs.Words.{behind-few, row-marked, row-alone}
+use Rattle.row_marks.proofs.Words.{members-few, row-marked, row-alone}
 use Rattle.row_marks.proofs.mark_row.Statement.{statement}
 use Rattle.row_marks.proofs.mark_row.Tie as tie
 
@@ -13,7 +13,8 @@ mark-row-spec =
     (λ c. search needs)
     (λ c. search needs)
     (λ c. search needs)
-    (λ c κs. (search behind-few, search needs))
+    (λ c. search needs)
+    (λ c κs. (search members-few, search needs))
     (λ c. search needs)
     (λ c. search row-marked)
     (λ c. search row-alone))

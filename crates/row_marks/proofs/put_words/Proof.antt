@@ -2,7 +2,8 @@
 use Prim.Native.Nat.{_-_}
 use lib.ListN.{length}
 use borrow.Author.Needs.{needs}
-use Rattle.row_marks.proofs.Words.{Putting, putting-starts, at-fits, from-inside, count-fits, from-fits, putting-turn, putting-long, putting-ends}
+use Rattle.row_marks.proofs.Words.{Putting, putting-starts, at-fits, from-inside, count-fits, from-fits}
+use Rattle.row_marks.proofs.Words.{putting-turn, putting-long, putting-ends}
 use Rattle.row_marks.proofs.put_words.Statement.{statement}
 use Rattle.row_marks.proofs.put_words.Tie as tie
 
@@ -25,7 +26,9 @@ put-words-spec =
     (λ c. search count-fits)
     (λ c. search from-fits)
     (λ c. search needs)
-    (λ c. let b = c .before .before .before .before .before in putting-turn _ _ _ _ (b .before .before .before .before .pre .0) _ _ _
-    (b .before .loop .inv) (b .loop-test .taken) _ (c .before .before .before .word-from .ensures) _ (c .before .before .note .ensures))
+    (λ c.
+    let b = c .before .before .before .before .before in
+    putting-turn _ _ _ _ (b .before .before .before .before .pre .0) _ _ _ (b .before .loop .inv) (b .loop-test .taken)
+    _ (c .before .before .before .word-from .ensures) _ (c .before .before .note .ensures))
     (λ c. search putting-long)
     (λ c. search putting-ends))

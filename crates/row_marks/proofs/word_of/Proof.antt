@@ -1,6 +1,7 @@
 -- `word_of` meets its contract. Assumes nothing.
 use borrow.Author.Needs.{needs}
-use Rattle.row_marks.proofs.Words.{WordSoFar, word-starts, double-fits, read-inside, sum-fits, word-turn, word-ends}
+use Rattle.row_marks.proofs.Words.{WordSoFar, word-starts, double-fits, read-inside, sum-fits, word-turn}
+use Rattle.row_marks.proofs.Words.{word-ends}
 use Rattle.row_marks.proofs.word_of.Statement.{statement}
 use Rattle.row_marks.proofs.word_of.Tie as tie
 

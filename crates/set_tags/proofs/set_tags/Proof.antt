@@ -5,17 +5,11 @@ use Rattle.set_tags.proofs.Sizes.{few-fits}
 use Rattle.set_tags.proofs.set_tags.Statement.{statement}
 use Rattle.set_tags.proofs.set_tags.Tie as tie
 
-edited-size-requires : tie.Need-edited-size-requires
-edited-size-requires c κs = search needs
-
 put-naming-requires : tie.Need-put-naming-requires
 put-naming-requires c κs =
     let counted = c .before in
     let start = counted .before .before .before .before .before .before in
     record-name-room _ _ (counted .edited-size .ensures .tags) (start .args .out .now) _ (start .pre .1 .1)
-
-cast-put-byte : tie.Need-cast-put-byte
-cast-put-byte c = search few-fits
 
 put-byte-requires : tie.Need-put-byte-requires
 put-byte-requires c κs =
@@ -32,20 +26,14 @@ put-edited-requires c κs =
     let start = counted .before .before .before .before .before .before in
     record-tags-room _ _ (counted .edited-size .ensures .tags) _ _ (start .pre .1 .1) _ _ (name .put-naming .ensures) _ _ (byte .put-byte .ensures)
 
-same-length : tie.Need-same-length
-same-length c = search needs
-
-returns : tie.Need-returns
-returns c = search record-put
-
 pub set-tags-spec : {M : Type 1} → statement M
 set-tags-spec =
     tie.close
     (tie.spec
-    edited-size-requires
+    (λ c κs. search needs)
     put-naming-requires
-    cast-put-byte
+    (λ c. search few-fits)
     put-byte-requires
     put-edited-requires
-    same-length
-    returns)
+    (λ c. search needs)
+    (λ c. search record-put))

@@ -14,26 +14,8 @@ Inv-loop h s x₀ i₀ x i = (i ≤ length s) × (hashBytes h s ≡ hashBytes x 
 abbrev μ-loop : tie.MeasureT-loop
 μ-loop h s x₀ i₀ x i = length s - i
 
-loop-holds : tie.Need-loop-holds Inv-loop μ-loop
-loop-holds c = search needs
-
-shared-slice-read-hash-byte : tie.Need-shared-slice-read-hash-byte Inv-loop μ-loop
-shared-slice-read-hash-byte c = search needs
-
-hash-byte-requires : tie.Need-hash-byte-requires Inv-loop μ-loop
-hash-byte-requires c κs = search needs
-
-add-i : tie.Need-add-i Inv-loop μ-loop
-add-i c = search needs
-
-loop-less : tie.Need-loop-less Inv-loop μ-loop
-loop-less c = search needs
-
 loop-again : tie.Need-loop-again Inv-loop μ-loop
 loop-again c = (search needs, search hash-turn)
-
-returns : tie.Need-returns Inv-loop μ-loop
-returns c = search hash-end
 
 pub hash-bytes-spec : {M : Type 1} → statement M
 hash-bytes-spec =
@@ -41,10 +23,10 @@ hash-bytes-spec =
     (tie.spec
     Inv-loop
     μ-loop
-    loop-holds
-    shared-slice-read-hash-byte
-    hash-byte-requires
-    add-i
-    loop-less
+    (λ c. search needs)
+    (λ c. search needs)
+    (λ c κs. search needs)
+    (λ c. search needs)
+    (λ c. search needs)
     loop-again
-    returns)
+    (λ c. search hash-end))

@@ -13,15 +13,6 @@ within n m a h = rw length-replicate h
 length-prefix : (n m a : ℕ) → n ≤ m → n ≡ length (take n (replicate m a))
 length-prefix n m a h = sym (length-take-le n (replicate m a) (within n m a h))
 
-number-at-requires : tie.Need-number-at-requires
-number-at-requires c κs = tt
-
-number-at-requires-2 : tie.Need-number-at-requires-2
-number-at-requires-2 c κs = tt
-
-returns : tie.Need-returns
-returns c = tt
-
 array-borrow-prefix-labels : tie.Need-array-borrow-prefix-labels
 array-borrow-prefix-labels c = within _ 65535 187 (c .before .before .number-at .ensures .small)
 
@@ -34,38 +25,20 @@ array-borrow-prefix-out c = within _ 8192 13527612320720337851 (c .before .if1 .
 slice-aggregate-nosingcatnip-exec-binop-2 : tie.Need-slice-aggregate-nosingcatnip-exec-binop-2
 slice-aggregate-nosingcatnip-exec-binop-2 c = length-prefix _ 8192 13527612320720337851 (c .before .before .if1 .left)
 
-nosingcatnip-exec-binop-requires : tie.Need-nosingcatnip-exec-binop-requires
-nosingcatnip-exec-binop-requires c κs = tt
-
-holds-numbers-requires : tie.Need-holds-numbers-requires
-holds-numbers-requires c κs = tt
-
-holds-labels-requires : tie.Need-holds-labels-requires
-holds-labels-requires c κs = tt
-
-holds-readings-requires : tie.Need-holds-readings-requires
-holds-readings-requires c κs = tt
-
-returns-2 : tie.Need-returns-2
-returns-2 c = tt
-
-returns-3 : tie.Need-returns-3
-returns-3 c = tt
-
 pub comes-to-spec : {M : Type 1} → statement M
 comes-to-spec =
     tie.close
     (tie.spec
-    number-at-requires
-    number-at-requires-2
-    returns
+    (λ c κs. tt)
+    (λ c κs. tt)
+    (λ c. tt)
     array-borrow-prefix-labels
     slice-aggregate-nosingcatnip-exec-binop
     array-borrow-prefix-out
     slice-aggregate-nosingcatnip-exec-binop-2
-    nosingcatnip-exec-binop-requires
-    holds-numbers-requires
-    holds-labels-requires
-    holds-readings-requires
-    returns-2
-    returns-3)
+    (λ c κs. tt)
+    (λ c κs. tt)
+    (λ c κs. tt)
+    (λ c κs. tt)
+    (λ c. tt)
+    (λ c. tt))

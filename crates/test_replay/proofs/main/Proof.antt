@@ -8,28 +8,19 @@ use Rattle.test_replay.proofs.main.Tie as tie
 slice-aggregate-read-full : tie.Need-slice-aggregate-read-full
 slice-aggregate-read-full c = sym (length-replicate {A = ℕ} 262144 0)
 
-read-full-requires : tie.Need-read-full-requires
-read-full-requires c κs = tt
-
 array-share-prefix-input : tie.Need-array-share-prefix-input
 array-share-prefix-input c = c .before .read-full .ensures .0
 
 slice-aggregate-run : tie.Need-slice-aggregate-run
 slice-aggregate-run c = c .before .before .read-full .ensures .1
 
-run-requires : tie.Need-run-requires
-run-requires c κs = tt
-
-returns : tie.Need-returns
-returns c = tt
-
 pub main-spec : {M : Type 1} → statement M
 main-spec =
     tie.close
     (tie.spec
     slice-aggregate-read-full
-    read-full-requires
+    (λ c κs. tt)
     array-share-prefix-input
     slice-aggregate-run
-    run-requires
-    returns)
+    (λ c κs. tt)
+    (λ c. tt))

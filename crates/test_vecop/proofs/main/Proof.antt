@@ -9,9 +9,6 @@ use Rattle.test_vecop.proofs.main.Tie as tie
 slice-aggregate-read-full : tie.Need-slice-aggregate-read-full
 slice-aggregate-read-full c = sym (length-replicate {A = ℕ} 524288 0)
 
-read-full-requires : tie.Need-read-full-requires
-read-full-requires c κs = tt
-
 array-share-prefix-input : tie.Need-array-share-prefix-input
 array-share-prefix-input c = c .before .read-full .ensures .0
 
@@ -24,17 +21,14 @@ slice-aggregate-run-2 c = sym (length-replicate {A = ℕ} 335918 0)
 run-requires : tie.Need-run-requires
 run-requires c κs = le-of-eq (sym (length-replicate {A = ℕ} 335918 0))
 
-returns : tie.Need-returns
-returns c = tt
-
 pub main-spec : {M : Type 1} → statement M
 main-spec =
     tie.close
     (tie.spec
     slice-aggregate-read-full
-    read-full-requires
+    (λ c κs. tt)
     array-share-prefix-input
     slice-aggregate-run
     slice-aggregate-run-2
     run-requires
-    returns)
+    (λ c. tt))

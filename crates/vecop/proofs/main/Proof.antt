@@ -10,9 +10,6 @@ use Rattle.vecop.proofs.main.Tie as tie
 slice-aggregate-read-full : tie.Need-slice-aggregate-read-full
 slice-aggregate-read-full c = sym (length-replicate {A = ℕ} 65537 0)
 
-read-full-requires : tie.Need-read-full-requires
-read-full-requires c κs = tt
-
 array-share-prefix-input : tie.Need-array-share-prefix-input
 array-share-prefix-input c = c .before .read-full .ensures .0
 
@@ -31,23 +28,17 @@ array-share-prefix-text c = words-within _ _ _ _ (c .before .vecop .ensures)
 slice-aggregate-write-all : tie.Need-slice-aggregate-write-all
 slice-aggregate-write-all c = words-measured _ _ _ _ (c .before .before .vecop .ensures)
 
-write-all-requires : tie.Need-write-all-requires
-write-all-requires c κs = tt
-
-returns : tie.Need-returns
-returns c = tt
-
 pub main-spec : {M : Type 1} → statement M
 main-spec =
     tie.close
     (tie.spec
     slice-aggregate-read-full
-    read-full-requires
+    (λ c κs. tt)
     array-share-prefix-input
     slice-aggregate-vecop
     slice-aggregate-vecop-2
     vecop-requires
     array-share-prefix-text
     slice-aggregate-write-all
-    write-all-requires
-    returns)
+    (λ c κs. tt)
+    (λ c. tt))

@@ -7,6 +7,7 @@ use mir.Syntax.{w64}
 use mir.Val.{Fits}
 use lib.ListN.{length, take}
 use lib.Seq.{length-take-le}
+use Rattle.side_parts.specs.declared.Shape.{Shape}
 use Rattle.answers.specs.declared.Told.{Told}
 use Rattle.answers.specs.declared.Told.the-variants.{Answer, Refusal}
 use Rattle.writing.specs.Written.{Put}
@@ -14,12 +15,15 @@ use Rattle.vecop_run.specs.outcome_text.Text.{answerText, refusalText}
 use Rattle.vecop_run.specs.outcome_text.Told.{toldText, Within}
 
 module _ (w : Told) (x y d : List ℕ) (t : Told) (ht : t ≡ w) where
-  module _ (n p b : ℕ) (e : t ≡ Answer n p b) where
-    is-answer : w ≡ Answer n p b
+  module _ (n : ℕ) (shape : Shape) (b : ℕ) (e : t ≡ Answer n shape b) where
+    abbrev p : ℕ
+    p = shape .points
+
+    is-answer : w ≡ Answer n shape b
     is-answer = sym ht ∙ e
 
     module _ (lies : Within w x y) where
-      inside : Within (Answer n p b) x y
+      inside : Within (Answer n shape b) x y
       inside = rw is-answer at lies
 
       pub bytes-measured : b ≡ length (take b x)

@@ -7,12 +7,12 @@ use Rattle.answers.specs.declared.Told.the-variants.{Answer, Refusal}
 use Rattle.vecop_run.specs.outcome_text.Text.{answerText, refusalText}
 
 abbrev pub toldText : Told → List ℕ → List ℕ → List ℕ
-toldText (Answer n p b) labels readings = answerText n p (take b labels) (take (n * p) readings)
+toldText (Answer n shape b) labels readings = answerText n (shape .points) (take b labels) (take (n * shape .points) readings)
 toldText (Refusal k a b) labels readings = refusalText k a b
 
 -- an answer lies within the output parts
 abbrev pub Lies : Told → List ℕ → List ℕ → Type 0
-Lies (Answer n p b) labels readings = (b ≤ length labels) × (n * p ≤ length readings)
+Lies (Answer n shape b) labels readings = (b ≤ length labels) × (n * shape .points ≤ length readings)
 Lies (Refusal k a b) labels readings = Unit {0}
 
 pub record Within (x : Told) (labels readings : List ℕ) : Type 0 where

@@ -13,35 +13,8 @@ Inv-loop array at hashes rec h matching list i₀ i = Finding (matchingOf matchi
 abbrev μ-loop : tie.MeasureT-loop
 μ-loop array at hashes rec h matching list i₀ i = length hashes - i
 
-loop-holds : tie.Need-loop-holds Inv-loop μ-loop
-loop-holds c = search find-starts
-
-mul-same-key : tie.Need-mul-same-key Inv-loop μ-loop
-mul-same-key c = search needs
-
-shared-slice-read-same-key : tie.Need-shared-slice-read-same-key Inv-loop μ-loop
-shared-slice-read-same-key c = search needs
-
-record-requires : tie.Need-record-requires Inv-loop μ-loop
-record-requires c κs = search needs
-
 same-key-requires : tie.Need-same-key-requires Inv-loop μ-loop
 same-key-requires c κs = (search find-hash, search needs)
-
-returns : tie.Need-returns Inv-loop μ-loop
-returns c = search find-here
-
-add-i : tie.Need-add-i Inv-loop μ-loop
-add-i c = search needs
-
-loop-less : tie.Need-loop-less Inv-loop μ-loop
-loop-less c = search needs
-
-loop-again : tie.Need-loop-again Inv-loop μ-loop
-loop-again c = search find-turn
-
-returns-2 : tie.Need-returns-2 Inv-loop μ-loop
-returns-2 c = search find-ends
 
 pub find-key-spec : {M : Type 1} → statement M
 find-key-spec =
@@ -49,13 +22,13 @@ find-key-spec =
     (tie.spec
     Inv-loop
     μ-loop
-    loop-holds
-    mul-same-key
-    shared-slice-read-same-key
-    record-requires
+    (λ c. search find-starts)
+    (λ c. search needs)
+    (λ c. search needs)
+    (λ c κs. search needs)
     same-key-requires
-    returns
-    add-i
-    loop-less
-    loop-again
-    returns-2)
+    (λ c. search find-here)
+    (λ c. search needs)
+    (λ c. search needs)
+    (λ c. search find-turn)
+    (λ c. search find-ends))

@@ -39,24 +39,24 @@ module _ (keep bool : Bool) (e : keep ≡ false) where
   cleared notCarried j h = rw e
 
 returns : tie.Need-returns
-returns c = let q = c .before .args .q in kept (kindOf (q .operator)) (q .«keep_names») (q .bool) (c .if1 .taken)
+returns c = let q = c .before .args .q in kept (kindOf (q .operator)) (q .«keep_names») (q .«as_bool») (c .if1 .taken)
 
 returns-2 : tie.Need-returns-2
 returns-2 c =
     let q = c .before .before .before .args .q in
-    logical (kindOf (q .operator)) (q .«keep_names») (q .bool) (sym (c .before .is-logical-op .ensures) ∙ c .if2 .taken)
+    logical (kindOf (q .operator)) (q .«keep_names») (q .«as_bool») (sym (c .before .is-logical-op .ensures) ∙ c .if2 .taken)
 
 returns-3 : tie.Need-returns-3
 returns-3 c =
     let l = c .before .before .before .before in
     let q = l .before .args .q in
-    compared (q .«keep_names») (q .bool) (l .if1 .left) (kindOf (q .operator)) (sym (c .before .is-comparison .ensures) ∙ c .if3 .taken)
+    compared (q .«keep_names») (q .«as_bool») (l .if1 .left) (kindOf (q .operator)) (sym (c .before .is-comparison .ensures) ∙ c .if3 .taken)
 
 returns-4 : tie.Need-returns-4
 returns-4 c =
     let l = c .before .before .before .before in
     let q = l .before .args .q in
-    cleared (q .«keep_names») (q .bool) (l .if1 .left) (kindOf (q .operator))
+    cleared (q .«keep_names») (q .«as_bool») (l .if1 .left) (kindOf (q .operator))
     (sym (c .before .before .before .is-logical-op .ensures) ∙ c .before .before .if2 .left)
     (sym (c .before .is-comparison .ensures) ∙ c .if3 .left)
 

@@ -8,9 +8,6 @@ use Rattle.rows.proofs.comparisons.same.Tie as tie
 returns : tie.Need-returns
 returns c = let a = c .before .before .args in sym (eq-fails (a .left) (a .right) (omega arith))
 
-returns-2 : tie.Need-returns-2
-returns-2 c = refl
-
 pub same-spec : {M : Type 1} → statement M
 same-spec =
     tie.close
@@ -19,4 +16,4 @@ same-spec =
     returns
     (λ c. let a = c .before .before .args in left-solid (a .left) (a .right) (omega arith))
     (λ c. let a = c .before .before .args in right-solid (a .left) (a .right) (omega arith))
-    returns-2)
+    (λ c. refl))

@@ -16,49 +16,19 @@ Inv-loop many source join skip w₀ h₀ w h =
 abbrev μ-loop : tie.MeasureT-loop
 μ-loop many source join skip w₀ h₀ w h = w .left + w .more
 
-walk-of-requires : tie.Need-walk-of-requires Inv-loop μ-loop
-walk-of-requires c κs = search needs
-
-loop-holds : tie.Need-loop-holds Inv-loop μ-loop
-loop-holds c = search hash-start
-
-next-edited-requires : tie.Need-next-edited-requires Inv-loop μ-loop
-next-edited-requires c κs = search needs
-
-enum-known-sourced : tie.Need-enum-known-sourced Inv-loop μ-loop
-enum-known-sourced c = search needs
-
-enum-told : tie.Need-enum-told Inv-loop μ-loop
-enum-told c = search needs
-
-returns : tie.Need-returns Inv-loop μ-loop
-returns c = search hash-done
-
-tag-bytes-requires : tie.Need-tag-bytes-requires Inv-loop μ-loop
-tag-bytes-requires c κs = search edit-spans
-
-hash-bytes-requires : tie.Need-hash-bytes-requires Inv-loop μ-loop
-hash-bytes-requires c κs = search needs
-
-loop-less : tie.Need-loop-less Inv-loop μ-loop
-loop-less c = search edit-fewer
-
-loop-again : tie.Need-loop-again Inv-loop μ-loop
-loop-again c = search hash-turn
-
 pub hash-edited-spec : {M : Type 1} → statement M
 hash-edited-spec =
     tie.close
     (tie.spec
     Inv-loop
     μ-loop
-    walk-of-requires
-    loop-holds
-    next-edited-requires
-    enum-known-sourced
-    enum-told
-    returns
-    tag-bytes-requires
-    hash-bytes-requires
-    loop-less
-    loop-again)
+    (λ c κs. search needs)
+    (λ c. search hash-start)
+    (λ c κs. search needs)
+    (λ c. search needs)
+    (λ c. search needs)
+    (λ c. search hash-done)
+    (λ c κs. search edit-spans)
+    (λ c κs. search needs)
+    (λ c. search edit-fewer)
+    (λ c. search hash-turn))

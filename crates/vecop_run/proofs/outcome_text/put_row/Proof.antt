@@ -14,45 +14,18 @@ Inv-loop out₀ at row o₀ i₀ out o i = GatherLeft readingText row out₀ at 
 abbrev μ-loop : tie.MeasureT-loop
 μ-loop out₀ at row o₀ i₀ out o i = length row - i
 
-loop-holds : tie.Need-loop-holds Inv-loop μ-loop
-loop-holds c = search gather-start
-
-mul-put-reading : tie.Need-mul-put-reading Inv-loop μ-loop
-mul-put-reading c = search needs
-
-shared-slice-read-put-reading : tie.Need-shared-slice-read-put-reading Inv-loop μ-loop
-shared-slice-read-put-reading c = search needs
-
-put-reading-requires : tie.Need-put-reading-requires Inv-loop μ-loop
-put-reading-requires c κs = search row-room
-
-add-i : tie.Need-add-i Inv-loop μ-loop
-add-i c = search needs
-
-loop-less : tie.Need-loop-less Inv-loop μ-loop
-loop-less c = search needs
-
-loop-again : tie.Need-loop-again Inv-loop μ-loop
-loop-again c = search gather-turn
-
-same-length : tie.Need-same-length Inv-loop μ-loop
-same-length c = search needs
-
-returns : tie.Need-returns Inv-loop μ-loop
-returns c = search gather-done
-
 pub put-row-spec : {M : Type 1} → statement M
 put-row-spec =
     tie.close
     (tie.spec
     Inv-loop
     μ-loop
-    loop-holds
-    mul-put-reading
-    shared-slice-read-put-reading
-    put-reading-requires
-    add-i
-    loop-less
-    loop-again
-    same-length
-    returns)
+    (λ c. search gather-start)
+    (λ c. search needs)
+    (λ c. search needs)
+    (λ c κs. search row-room)
+    (λ c. search needs)
+    (λ c. search needs)
+    (λ c. search gather-turn)
+    (λ c. search needs)
+    (λ c. search gather-done))

@@ -1,0 +1,59 @@
+-- `plan` meets its contract. Assumes nothing.
+use native.Mathlib.Omega.{arith}
+use borrow.Author.Needs.{needs}
+use Rattle.answering.proofs.Answers.{both-rows}
+use Rattle.answering.proofs.families.Plans.{pairs-planned, join-planned, set-planned}
+use Rattle.answering.proofs.families.plan.Statement.{statement}
+use Rattle.answering.proofs.families.plan.Tie as tie
+
+plan-pairs-requires : tie.Need-plan-pairs-requires
+plan-pairs-requires c κs = both-rows _ (c .before .before .before .before .before .before .before .pre .0)
+
+plan-join-requires : tie.Need-plan-join-requires
+plan-join-requires c κs =
+    let pre = c .before .before .before .before .before .before .before .pre in
+    let long = pre .1 .0 in
+    (pre .0, (omega (arith, long), pre .1 .1 .1))
+
+returns : tie.Need-returns
+returns c =
+    let plan = c .before .before in
+    let allowed = plan .before .before in
+    let rule = allowed .before .before in
+    let pre = rule .before .before .before .before .pre in
+    pairs-planned _ _ _ _ (pre .0) _ (rule .rule .given .1) _ (allowed .allowed-overlaps .ensures) _ _ _ _ (pre .1 .0) (pre .1 .1 .0)
+    (plan .plan-pairs .ensures)
+
+returns-2 : tie.Need-returns-2
+returns-2 c =
+    let plan = c .before .before .before .before in
+    let rule = plan .before .before .before .before in
+    let pre = rule .before .before .before .before .pre in
+    let made = plan .plan-join .ensures in
+    join-planned _ _ _ _ (pre .0) _ (rule .rule2 .given .1) _ _ _ _ _ (pre .1 .0) (pre .1 .1 .0) (made .0) (made .1)
+
+returns-3 : tie.Need-returns-3
+returns-3 c =
+    let plan = c .before .before in
+    let rule = plan .before .before .before in
+    let pre = rule .before .before .before .before .pre in
+    set-planned _ _ _ _ (pre .0) _ (rule .rule3 .given .1) _ _ _ _ (pre .1 .0) (pre .1 .1 .0) (plan .plan-set .ensures)
+
+pub plan-spec : {M : Type 1} → statement M
+plan-spec =
+    tie.close
+    (tie.spec
+    (λ c. search needs)
+    (λ c κs. search needs)
+    plan-pairs-requires
+    (λ c. search needs)
+    plan-join-requires
+    (λ c. search needs)
+    (λ c κs. search needs)
+    (λ c. search needs)
+    returns
+    (λ c. search needs)
+    (λ c. search needs)
+    returns-2
+    (λ c. search needs)
+    returns-3)

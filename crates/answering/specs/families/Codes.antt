@@ -1,0 +1,80 @@
+-- The record and the row of a code, by its rule, and when a code is in bounds. Assumes nothing.
+use Prim.Native.Nat.{ℕ, _≤_, _<_}
+use mathlib.Core.Path.{_≡_}
+use mathlib.Core.List.{List}
+use lib.ListN.{length, getD}
+use Rattle.operator.specs.Kinds.{kindOf}
+use Rattle.model.specs.Limits.{maxSeries}
+use Rattle.model.specs.Labels.{Labels}
+use Rattle.model.specs.Vector.{Series}
+use Rattle.labels.specs.Names.{namesOf}
+use Rattle.side_parts.specs.Lent.{Sides}
+use Rattle.pair_series.specs.adjusted_labels.Edits.{pairQuery}
+use Rattle.pair_series.specs.pair_records.Records as Pair
+use Rattle.pair_series.specs.pair_records.Records.{codedPairLabels}
+use Rattle.pair_series.specs.pair_rows.Rows.{codedPairRow, PairCode}
+use Rattle.join_series.specs.join_records.Records.{codedJoinLabels, JoinRecord}
+use Rattle.join_series.specs.join_rows.Rows.{codedJoinRow, JoinCode}
+use Rattle.join_series.specs.Series.{marksOf}
+use Rattle.plan.specs.Sets.{ruleBy}
+use Rattle.set_series.specs.Series as Set
+use Rattle.set_series.specs.Series.{codedSetLabels, codedSetRow, SetCode}
+use Rattle.answering.specs.declared.families.Rule.{Rule}
+use Rattle.answering.specs.declared.families.Rule.the-variants.{Pairs, Join, Set}
+
+-- the labels of a code; `first` and `second` are the two lists beside the rule
+abbrev pub ruleLabels : Rule → List ℕ → List ℕ → Sides → ℕ → Labels
+ruleLabels (Pairs q) first second s c = codedPairLabels (pairQuery first q) (s .left .array) (s .left .at) c
+ruleLabels (Join w) first second s c = codedJoinLabels (w .naming) (namesOf first) (namesOf second) s c
+ruleLabels (Set op) first second s c = codedSetLabels s c
+
+-- the row of a code and its marks
+abbrev pub ruleRow : Rule → Sides → List ℕ → ℕ → List ℕ
+ruleRow (Pairs q) s marks c = codedPairRow (q .operator) (q .«as_bool») s c
+ruleRow (Join w) s marks c = codedJoinRow w s marks c
+ruleRow (Set op) s marks c = codedSetRow (ruleBy (kindOf op)) s c
+
+-- row k of a plan
+abbrev pub planRow : Rule → Sides → List ℕ → List ℕ → ℕ → List ℕ
+planRow rule s codes marks k = ruleRow rule s (marksOf marks k) (getD codes k 0)
+
+-- and its answer series
+abbrev pub planSeries : Rule → List ℕ → List ℕ → Sides → List ℕ → List ℕ → ℕ → Series
+planSeries rule first second s codes marks k = record {
+  labels = ruleLabels rule first second s (getD codes k 0);
+  row = planRow rule s codes marks k;
+}
+
+-- a code whose places have rows
+abbrev pub CodeIn : Rule → Sides → ℕ → Type 0
+CodeIn (Pairs q) s c = PairCode s c
+CodeIn (Join w) s c = JoinCode s c
+CodeIn (Set op) s c = SetCode s c
+
+-- a code whose places have records
+abbrev pub RecordIn : Rule → Sides → ℕ → Type 0
+RecordIn (Pairs q) s c = Pair.RecordCode (s .left .at) c
+RecordIn (Join w) s c = JoinRecord s c
+RecordIn (Set op) s c = Set.RecordCode s c
+
+-- codes of an answer, no more than it may have series
+
+pub record CodesIn (rule : Rule) (s : Sides) (codes : List ℕ) : Type 0 where
+  pub few : length codes ≤ maxSeries
+  pub each : (k : ℕ) → k < length codes → CodeIn rule s (getD codes k 0)
+
+pub record RecordsIn (rule : Rule) (s : Sides) (codes : List ℕ) : Type 0 where
+  pub few : length codes ≤ maxSeries
+  pub each : (k : ℕ) → k < length codes → RecordIn rule s (getD codes k 0)
+
+-- work rows have room for p readings, and the list of places for those of a side
+pub record WorkRoom (p : ℕ) (left right places : List ℕ) : Type 0 where
+  pub left-room : p ≤ length left
+  pub right-room : p ≤ length right
+  pub places-room : maxSeries ≤ length places
+
+-- they keep their lengths
+pub record WorkKept (left right places left′ right′ places′ : List ℕ) : Type 0 where
+  pub left-long : length left′ ≡ length left
+  pub right-long : length right′ ≡ length right
+  pub places-long : length places′ ≡ length places

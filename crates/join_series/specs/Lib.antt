@@ -1,0 +1,5 @@
+pub mod Works
+pub mod Queries
+pub mod Series
+pub mod join_records
+pub mod join_rows

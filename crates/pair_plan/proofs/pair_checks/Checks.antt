@@ -1,0 +1,232 @@
+-- The merges of the sides of a pair. Assumes nothing.
+use Prim.Native.Nat.{ℕ, suc, _+_, _-_, _*_, _≤_, _<_}
+use mathlib.Core.Path.{_≡_, refl, sym, ap, _∙_}
+use mathlib.Core.Bool.{Bool, true, false}
+use mathlib.Core.Option.{none, some}
+use mathlib.Core.List.{List, _++_}
+use native.Mathlib.Numerals.{add-one}
+use native.Mathlib.Omega.{arith}
+use lib.Dec.{ltb}
+use lib.ListN.{length, getD, take, drop, length-append, length-drop, drop-of-length-le}
+use lib.Seq.{drop-cons, length-take-le, take-at}
+use borrow.Author.Tests.{ltb-false}
+use Rattle.model.specs.Row.{overwritten, merged}
+use Rattle.model.specs.Laws.Row.{overwritten-wide}
+use Rattle.model.specs.Query as Model
+use Rattle.side_parts.specs.Lent.{RowsHeld, rowSides, Sides}
+use Rattle.key_ends.specs.end_codes.Codes.{leftLast, rightLast, CodeOf, left-last, right-last}
+use Rattle.plan.specs.Keys.{firstOf, lastOf, KeyEnds}
+use Rattle.plan.specs.Merging.{RowMerge, row, failedAt, mergeGroup, mergeLast, clash}
+use Rattle.side_parts.specs.Sides.{rowAt}
+use Rattle.plan.specs.Conclude.{orElse}
+use Rattle.plan.specs.Pairs.{isPair, pairClash, pairsClash}
+use Rattle.merging.specs.declared.Merges.{Merges}
+use Rattle.merging.specs.declared.Merges.the-variants.{Done, FailedAt}
+use Rattle.merge.specs.Merging.{mergedIf}
+use Rattle.answers.specs.Plans.{duplicate}
+use Rattle.answers.proofs.Rows.{row-in, row-width}
+use Rattle.merging.specs.Groups.{mergesTo, MergedGroup}
+use Rattle.plan.specs.Laws.Ends.{first-last, ends-within, several-stand}
+use Rattle.merging.specs.Several.{single-row, none-among, several, several-merged}
+use Rattle.pair_plan.specs.declared.pair_checks.Checked.{Checked}
+use Rattle.pair_plan.specs.declared.pair_checks.Checked.the-variants as C
+use Rattle.pair_plan.specs.pair_checks.Checks.{failureOf, failedIn, clashIn, clashAt}
+
+-- what the code tells of merges that are to come to `want`
+
+same-failure : (r : Merges) (d : List ℕ) → failedIn r ≡ failureOf (mergesTo r d)
+same-failure Done d = refl
+same-failure (FailedAt i) d = refl
+
+merges-told : (want : RowMerge) (p : ℕ) (d : List ℕ) (r : Merges) → MergedGroup want p d r → failedIn r ≡ failureOf want
+merges-told want p d r m = same-failure r d ∙ ap failureOf (m .answer)
+
+-- `ensure_merges`
+
+module _ (allowance p : ℕ) (rows keys : List ℕ) (k first last : ℕ) (held : RowsHeld p rows keys)
+    (e : KeyEnds keys k first last) (h : first < last) where
+  first-in : first < length keys
+  first-in = several-stand keys k first last e h
+
+  last-in : last < length keys
+  last-in = ends-within keys k first last e first-in
+
+  pub last-there : last * p + p ≤ length rows
+  last-there = omega (arith, row-in last (length keys) p last-in, held .whole)
+
+  pub first-there : first * p + p ≤ length rows
+  first-there = omega (arith, row-in first (length keys) p first-in, held .whole)
+
+  pub last-inside : last ≤ length keys
+  last-inside = omega (arith, last-in)
+
+  module _ (m : Bool)
+      (hm : mergedIf m (rowAt p rows last) (rowAt p rows first)
+      ≡ merged allowance (rowAt p rows last) (rowAt p rows first)) where
+    pub first-fails : m ≡ false → some first ≡ failureOf (mergeLast allowance p rows keys k)
+    first-fails f = rw (several allowance p rows k keys first last e h, ← hm, f)
+
+    pub two-merge : m ≡ true → (r : Bool)
+        → r ≡ ltb (firstOf (take (last - (first + 1)) (drop (first + 1) keys)) k) (last - (first + 1)) → r ≡ false
+        → none ≡ failureOf (mergeLast allowance p rows keys k)
+    two-merge t r hr f = rw (
+      several-merged allowance p rows k keys first last e h (rw t at hm),
+      none-among allowance p rows k between (suc first)
+          (overwritten (rowAt p rows last) (rowAt p rows first)) none-between,
+    )
+      where
+        between : List ℕ
+        between = take (last - suc first) (drop (suc first) keys)
+
+        long : length between ≡ last - suc first
+        long = length-take-le (last - suc first) (drop (suc first) keys)
+            (omega (arith, last-in, length-drop (suc first) keys))
+
+        none-between : length between ≤ firstOf between k
+        none-between = rw long (ltb-false (firstOf between k) (last - suc first) (sym (rw (← add-one first) hr) ∙ f))
+
+  -- the first series put over the last, at the start of a work row
+
+  module _ (work : List ℕ) (room : p ≤ length work) where
+    pub last-wide : (x : List ℕ) → x ≡ rowAt p rows last → length x ≡ length (take p work)
+    last-wide x hx = row-width p rows x last last-there hx ∙ sym (length-take-le p work room)
+
+    pub first-wide : (y : List ℕ) → y ≡ rowAt p rows first → length y ≡ length (take p work)
+    first-wide y hy = row-width p rows y first first-there hy ∙ sym (length-take-le p work room)
+
+    module _ (x y d : List ℕ) (hx : x ≡ rowAt p rows last) (hy : y ≡ rowAt p rows first)
+        (hd : d ≡ overwritten x y) where
+      put-long : length d ≡ p
+      put-long = ap length hd ∙ overwritten-wide x y ∙ row-width p rows x last last-there hx
+
+      again : take p (d ++ drop p work) ≡ d
+      again = take-at d (drop p work) p put-long
+
+      pub put-part : p ≡ length (take p (d ++ drop p work))
+      put-part = rw again (sym put-long)
+
+      pub put-room : length keys * length (take p (d ++ drop p work)) ≤ length rows
+      put-room = rw (← put-part) (omega (arith, held .whole))
+
+      module _ (later : List ℕ) (r : Merges)
+          (g : MergedGroup (mergeGroup allowance (length (take p (d ++ drop p work))) rows k (first + 1)
+          (take (last - (first + 1)) (drop (first + 1) keys)) (take p (d ++ drop p work)))
+          (length (take p (d ++ drop p work))) later r) where
+        pub between-long : length (later ++ drop p (d ++ drop p work)) ≡ length work
+        between-long = omega (
+          arith,
+          length-append later (drop p (d ++ drop p work)),
+          length-drop p (d ++ drop p work),
+          length-append d (drop p work),
+          length-drop p work,
+          g .long,
+          put-part,
+          put-long,
+        )
+
+        pub between-told : (m : Bool)
+            → mergedIf m (rowAt p rows last) (rowAt p rows first)
+            ≡ merged allowance (rowAt p rows last) (rowAt p rows first)
+            → m ≡ true → failedIn r ≡ failureOf (mergeLast allowance p rows keys k)
+        between-told m hm t =
+            merges-told
+            (mergeGroup allowance p rows k (suc first) (take (last - suc first) (drop (suc first) keys))
+            (overwritten (rowAt p rows last) (rowAt p rows first))) p later r
+            (rw (again, put-long, add-one first, hd, hx, hy) at g)
+            ∙ ap failureOf (sym (several-merged allowance p rows k keys first last e h (rw t at hm)))
+
+-- `ensure_single_timeseries`
+
+pub single-fine : (allowance p : ℕ) (rows keys : List ℕ) (k first last : ℕ) → KeyEnds keys k first last → last ≤ first
+    → none ≡ failureOf (mergeLast allowance p rows keys k)
+single-fine allowance p rows keys k first last e le =
+    let same : firstOf keys k ≡ lastOf keys k = omega (arith, first-last k keys, e .first-place, e .last-place, le) in
+    rw (single-row allowance p rows k keys same)
+
+-- `check_pair`
+
+clash-of : (side : Model.Side) (kept : ℕ) (u : RowMerge) → none ≡ failureOf u → none ≡ clash side kept u
+clash-of side kept (row d) h = refl
+clash-of side kept (failedAt i d) h = absurd (let z : _≡_ {A = ℕ} 0 1 = cc in omega arith)
+
+clash-at : (side : Model.Side) (kept i : ℕ) (u : RowMerge) → some i ≡ failureOf u
+    → some (duplicate side kept i) ≡ clash side kept u
+clash-at side kept i (row d) h = absurd (let z : _≡_ {A = ℕ} 0 1 = cc in omega arith)
+clash-at side kept i (failedAt j d) h = let z : i ≡ j = cc in rw z
+
+module _ (allowance p : ℕ) (left lkeys right rkeys : List ℕ) (k : ℕ) (a : Merges)
+    (ha : failedIn a ≡ failureOf (mergeLast allowance p left lkeys k)) where
+  pub check-left : (c : ℕ) → CodeOf lkeys rkeys k c → (i kept : ℕ) → a ≡ FailedAt i → kept ≡ leftLast c
+      → clashIn (C.Left kept i) ≡ pairClash allowance (rowSides p lkeys left rkeys right) k
+  check-left c hc i kept e hk =
+      let z : some i ≡ failureOf (mergeLast allowance p left lkeys k) = rw e at ha in
+      rw (← left-last lkeys rkeys k c hc, ← hk, ← clash-at Model.left kept i (mergeLast allowance p left lkeys k) z)
+
+  module _ (e : a ≡ Done) (b : Merges) (hb : failedIn b ≡ failureOf (mergeLast allowance p right rkeys k)) where
+    left-fine : (kept : ℕ) → none ≡ clash Model.left kept (mergeLast allowance p left lkeys k)
+    left-fine kept = clash-of Model.left kept (mergeLast allowance p left lkeys k) (rw e at ha)
+
+    pub check-right : (c : ℕ) → CodeOf lkeys rkeys k c → (i kept : ℕ) → b ≡ FailedAt i → kept ≡ rightLast c
+        → clashIn (C.Right kept i) ≡ pairClash allowance (rowSides p lkeys left rkeys right) k
+    check-right c hc i kept f hk =
+        let z : some i ≡ failureOf (mergeLast allowance p right rkeys k) = rw f at hb in
+        rw (← left-fine (lastOf lkeys k), ← right-last lkeys rkeys k c hc, ← hk)
+        (clash-at Model.right kept i (mergeLast allowance p right rkeys k) z)
+
+    pub check-fine : b ≡ Done → clashIn C.Fine ≡ pairClash allowance (rowSides p lkeys left rkeys right) k
+    check-fine f =
+        rw (← left-fine (lastOf lkeys k))
+        (clash-of Model.right (lastOf rkeys k) (mergeLast allowance p right rkeys k) (rw f at hb))
+
+-- `check_at`
+
+module _ (allowance : ℕ) (s : Sides) (i k : ℕ) (r : Bool) (hr : r ≡ isPair (s .left .keys) (s .right .keys) k i) where
+  pub at-pair : r ≡ true → (x : Checked) → clashIn x ≡ pairClash allowance s k → clashIn x ≡ clashAt allowance s i k
+  at-pair h x hx = rw (← hr, h) hx
+
+  pub at-none : r ≡ false → none ≡ clashAt allowance s i k
+  at-none h = rw (← hr, h)
+
+-- the loop of `check_pairs`: the places before i have no clash
+
+pub record Checking (allowance : ℕ) (s : Sides) (before : List ℕ) (i : ℕ) (work : List ℕ) : Type 0 where
+  pub within : i ≤ length (s .left .keys)
+  pub rest : pairsClash allowance s i (drop i (s .left .keys)) ≡ pairsClash allowance s 0 (s .left .keys)
+  pub long : length work ≡ length before
+
+module _ (allowance : ℕ) (s : Sides) (before : List ℕ) where
+  pub check-starts : Checking allowance s before 0 before
+  check-starts = record { within = omega arith; rest = refl; long = refl }
+
+  module _ (i : ℕ) (work : List ℕ) (inv : Checking allowance s before i work) where
+    pub check-room : (p : ℕ) → p ≤ length before → p ≤ length work
+    check-room p h = rw (inv .long) h
+
+    module _ (h : i < length (s .left .keys)) (x : Checked)
+        (hx : clashIn x ≡ clashAt allowance s i (getD (s .left .keys) i 0)) where
+      next : orElse (clashIn x) (pairsClash allowance s (suc i) (drop (suc i) (s .left .keys)))
+          ≡ pairsClash allowance s 0 (s .left .keys)
+      next = rw hx (sym step ∙ inv .rest)
+        where
+          step : pairsClash allowance s i (drop i (s .left .keys))
+              ≡ orElse (clashAt allowance s i (getD (s .left .keys) i 0))
+              (pairsClash allowance s (suc i) (drop (suc i) (s .left .keys)))
+          step = unfold pairsClash in rw (drop-cons (s .left .keys) i 0 h)
+
+      pub check-turn : x ≡ C.Fine → (later : List ℕ) → length later ≡ length work
+          → Checking allowance s before (i + 1) later
+      check-turn e later l = record { within = omega arith; rest = rw (add-one i) (rw e at next); long = l ∙ inv .long }
+
+      pub check-failed-left : (kept failed : ℕ) → x ≡ C.Left kept failed
+          → clashIn (C.Left kept failed) ≡ pairsClash allowance s 0 (s .left .keys)
+      check-failed-left kept failed e = rw e at next
+
+      pub check-failed-right : (kept failed : ℕ) → x ≡ C.Right kept failed
+          → clashIn (C.Right kept failed) ≡ pairsClash allowance s 0 (s .left .keys)
+      check-failed-right kept failed e = rw e at next
+
+    pub check-ends : length (s .left .keys) ≤ i → none ≡ pairsClash allowance s 0 (s .left .keys)
+    check-ends h = sym none-left ∙ inv .rest
+      where
+        none-left : pairsClash allowance s i (drop i (s .left .keys)) ≡ none
+        none-left = unfold pairsClash in rw (drop-of-length-le (s .left .keys) h)

@@ -1,0 +1,42 @@
+-- `check_pairs` meets its contract. Assumes nothing.
+use lib.ListN.{length}
+use Prim.Native.Nat.{_-_}
+use Rattle.side_parts.specs.Lent.{lent, unlabelled}
+use Rattle.pair_plan.proofs.pair_checks.Checks.{Checking, check-starts, check-room, check-turn, check-ends}
+use Rattle.pair_plan.proofs.pair_checks.Checks.{check-failed-left, check-failed-right}
+use borrow.Author.Needs.{needs}
+use native.Mathlib.Omega.{arith}
+use Rattle.pair_plan.proofs.pair_checks.check_pairs.Statement.{statement}
+use Rattle.pair_plan.proofs.pair_checks.check_pairs.Tie as tie
+
+abbrev Inv-loop : tie.InvT-loop
+Inv-loop allowance p t3 rows ends work₀ keys lkeys i₀ work i = Checking allowance (unlabelled p t3 rows) work₀ i work
+
+abbrev μ-loop : tie.MeasureT-loop
+μ-loop allowance p t3 rows ends work₀ keys lkeys i₀ work i = length (lent t3 0) - i
+
+pub check-pairs-spec : {M : Type 1} → statement M
+check-pairs-spec =
+    tie.close
+    (tie.spec
+    Inv-loop
+    μ-loop
+    (λ c. search needs)
+    (λ c. search check-starts)
+    (λ c κs. (search needs, (search needs, (search needs, search check-room))))
+    (λ c. search needs)
+    (λ c. omega arith)
+    (λ c. omega arith)
+    (λ c.
+    let chk = c .before .before .before .before in
+    let test = chk .before .before in
+    check-turn _ _ _ _ _ (test .before .loop .inv) (test .loop-test .taken) _ (chk .check-at .ensures .0)
+    (c .enum-told .given .1) _ (chk .check-at .ensures .1))
+    (λ c. search needs)
+    (λ c. search needs)
+    (λ c. (search check-failed-left, search needs))
+    (λ c. search needs)
+    (λ c. search needs)
+    (λ c. (search check-failed-right, search needs))
+    (λ c. search needs)
+    (λ c. (search check-ends, search needs)))

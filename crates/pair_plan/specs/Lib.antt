@@ -1,0 +1,2 @@
+pub mod pairs
+pub mod pair_checks

@@ -1,0 +1,34 @@
+-- What the merges of one-to-one come to, as the code tells it. Assumes nothing.
+use Prim.Native.Nat.{ℕ}
+use mathlib.Core.Bool.{cond}
+use mathlib.Core.Option.{Option, none, some}
+use Rattle.model.specs.Query as Model
+use Rattle.semantics.specs.Events.{Duplicate}
+use Rattle.plan.specs.Merging.{RowMerge, row, failedAt}
+use Rattle.plan.specs.Pairs.{isPair, pairClash}
+use Rattle.side_parts.specs.Lent.{Sides}
+use Rattle.merging.specs.declared.Merges.{Merges}
+use Rattle.merging.specs.declared.Merges.the-variants.{Done, FailedAt}
+use Rattle.answers.specs.Plans.{duplicate}
+use Rattle.pair_plan.specs.declared.pair_checks.Checked.{Checked}
+use Rattle.pair_plan.specs.declared.pair_checks.Checked.the-variants as C
+
+-- the place of the series that failed to merge: where merges are to come to it, and as the code tells it
+
+abbrev pub failureOf : RowMerge → Option ℕ
+failureOf (row d) = none
+failureOf (failedAt i d) = some i
+
+abbrev pub failedIn : Merges → Option ℕ
+failedIn Done = none
+failedIn (FailedAt i) = some i
+
+-- 01: fields are the input places of the series kept and the one that failed to merge
+abbrev pub clashIn : Checked → Option Duplicate
+clashIn C.Fine = none
+clashIn (C.Left kept failed) = some (duplicate Model.left kept failed)
+clashIn (C.Right kept failed) = some (duplicate Model.right kept failed)
+
+-- the clash at the left place i, whose key is k
+abbrev pub clashAt : ℕ → Sides → ℕ → ℕ → Option Duplicate
+clashAt allowance s i k = cond (isPair (s .left .keys) (s .right .keys) k i) (pairClash allowance s k) none

@@ -1,3 +1,0 @@
-pub mod Sides
-pub mod Answering
-pub mod Listed

@@ -1,3 +1,0 @@
-pub mod set_points
-pub mod set_operators
-pub mod Answers

@@ -1,0 +1,4 @@
+pub mod Searching
+pub mod Points
+pub mod Leaving
+pub mod Rules
