@@ -14,7 +14,7 @@ use Rattle.model.specs.Record.{encode}
 use Rattle.side_parts.specs.Lent.{Sides}
 use Rattle.answers.specs.Tallies.{someWide}
 use Rattle.answers.proofs.Writing.{Writing, writing-room}
-use Rattle.join_series.specs.join_records.Records.{LabelRoom}
+use Rattle.join_records.specs.Records.{LabelRoom}
 use Rattle.answering.specs.declared.families.Rule.{Rule}
 use Rattle.answering.specs.families.Codes.{RecordIn, RecordsIn}
 

@@ -13,7 +13,7 @@ ghost use Rattle.model.specs.Record.{encode};
 ghost use Rattle.writing.specs.Written.{Put};
 ghost use Rattle.side_parts.specs.Lent.{Sides, sides, shapeOf, lent, labelled, unlabelled, BothHeld, BothFormed, BothRowsHeld};
 ghost use Rattle.answers.specs.Tallies.{SizedRecord};
-ghost use Rattle.join_series.specs.join_records.Records.{LabelRoom};
+ghost use Rattle.join_records.specs.Records.{LabelRoom};
 ghost use Rattle.join_plan.specs.place_plans.Places.{Clean};
 ghost use Rattle.answering.specs.families.Codes.{ruleLabels, ruleRow, RecordIn, CodeIn, WorkRoom, WorkKept};
 ghost use Rattle.answering.specs.families.Plans.{RulePlanned};
@@ -50,7 +50,7 @@ pub(crate) fn plan(
 {
     match rule {
         Rule::Pairs(q) => {
-            let allowance = query::allowed_overlaps(q);
+            let allowance = query_rules::allowed_overlaps(q);
             pair_plan::plan_pairs(allowance, shape.points, keys, rows, codes)
         }
         Rule::Join(w) => {
@@ -77,12 +77,12 @@ pub(crate) fn record_size(
     ensures { λ s r. ⌜ SizedRecord (ruleLabels rule (lent (lists .entry) 0) (lent (lists .entry) 1) s code) r ⌝ }
 {
     match rule {
-        Rule::Pairs(q) => pair_series::pair_record_size(q, lists[0], labels[0], at[0], code),
+        Rule::Pairs(q) => pair_records::pair_record_size(q, lists[0], labels[0], at[0], code),
         Rule::Join(w) => {
             let naming = w.naming;
-            join_series::join_record_size(naming, lists, labels, at, code)
+            join_records::join_record_size(naming, lists, labels, at, code)
         }
-        Rule::Set(op) => set_series::set_record_size(labels, at, code),
+        Rule::Set(op) => set_records::set_record_size(labels, at, code),
     }
 }
 
@@ -108,13 +108,13 @@ pub(crate) fn put_record(
 {
     match rule {
         Rule::Pairs(q) => {
-            pair_series::put_pair_record(q, lists[0], labels[0], at[0], code, out, o)
+            pair_records::put_pair_record(q, lists[0], labels[0], at[0], code, out, o)
         }
         Rule::Join(w) => {
             let naming = w.naming;
-            join_series::put_join_record(naming, lists, labels, at, code, out, o)
+            join_records::put_join_record(naming, lists, labels, at, code, out, o)
         }
-        Rule::Set(op) => set_series::put_set_record(labels, at, code, out, o),
+        Rule::Set(op) => set_records::put_set_record(labels, at, code, out, o),
     }
 }
 

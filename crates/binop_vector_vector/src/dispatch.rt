@@ -36,13 +36,13 @@ fn work_of(q: Query, left: bool, join: &[u8], skip: &[u8]) -> Work
     ensures { λ r. ⌜ r ≡ askedWork (namesOf (now (join .entry))) (namesOf (now (skip .entry))) left q ⌝ }
 {
     let operator = q.operator;
-    let reset = query::should_reset_metric_group(q);
+    let reset = query_rules::should_reset_metric_group(q);
     Work {
         operator,
         as_bool: q.as_bool,
         left,
         naming: set_tags::naming_of(join, skip, reset),
-        allowance: query::allowed_overlaps(q),
+        allowance: query_rules::allowed_overlaps(q),
     }
 }
 

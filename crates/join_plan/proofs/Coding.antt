@@ -21,7 +21,7 @@ use Rattle.answers.proofs.Planning.{planned-clear, planned-count, planned-codes
 use Rattle.row_marks.specs.WordLaws.{part-marks}
 use Rattle.join_series.specs.declared.Work.{Work}
 use Rattle.join_series.specs.Works.{manySide, workedRow, codedWork}
-use Rattle.join_series.specs.join_records.Records.{codedJoinLabels}
+use Rattle.join_records.specs.Records.{codedJoinLabels}
 use Rattle.join_series.specs.join_rows.Rows.{JoinCode, markedRow, codedJoinRow}
 use Rattle.join_series.specs.Series.{marksOf, codedJoinSeries}
 use Rattle.join_series.proofs.Merged.{marked-is-merged}

@@ -31,7 +31,7 @@ use Rattle.answers.specs.declared.Planned.{Planned}
 use Rattle.answers.specs.declared.Planned.the-variants.{Rows, LeftTwice, RightTwice}
 use Rattle.answers.specs.Plans.{duplicate, PlannedAs}
 use Rattle.answers.proofs.Planning.{plan-left-twice, plan-right-twice, plan-rows}
-use Rattle.key_ends.specs.end_codes.Codes.{SideEnds, EndsOf, side-first, ends-at}
+use Rattle.key_ends.specs.Ends.{SideEnds, EndsOf, side-first, ends-at}
 use Rattle.index_lists.specs.Places.{NotedAll}
 use Rattle.join_plan.specs.declared.place_plans.Placed.{Placed}
 use Rattle.join_plan.specs.declared.place_plans.Placed.the-variants as P
@@ -463,16 +463,6 @@ module _ (w : JoinWork) (many : Side) (s : Sides) (ends list₀ marks₀ : List 
               same-list : length list′ ≡ length list
               same-list = by-lead .notes .long
 
-              all-few : (m : ℕ) → length (leadsAt w s m) ≤ maxSeries
-              all-few m =
-                  omega (
-                    arith,
-                    t .held .right .rows .few,
-                    leads-among-long (editOf w) (getD ls m noLabels) (getD ks m 0) (s .right .keys)
-                        (sideLabels (s .right)) (s .right .keys)
-                        (sideLabels (s .right)) (sym one-labels),
-                  )
-
               old : (j : ℕ) → j < n → j < length list′ → j * 8 + 8 ≤ length marks₀ → RowMarks w s list′ marks′ j
               old j a l r =
                   let same : getD list′ j 0 ≡ getD list j 0 = ap (λ (y : List ℕ). getD y j 0) (noted .content)
@@ -480,7 +470,7 @@ module _ (w : JoinWork) (many : Side) (s : Sides) (ends list₀ marks₀ : List 
                   rw same
                   (record {
                     each = λ b u.
-                        let low : b / 64 < 8 = omega (arith, u, all-few (manyPlace (getD list j 0))) in
+                        let low : b / 64 < 8 = omega (arith, u) in
                         rw (rows .frame .below (j * 8 + b / 64) (omega (arith, low, a)))
                         (t .marked j a (omega (arith, l, same-list)) r .each b u);
                   })

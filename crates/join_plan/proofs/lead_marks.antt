@@ -1,2 +1,3 @@
 pub mod Leaders
+pub mod Buckets
 pub mod Marking

@@ -80,7 +80,7 @@ pub(crate) fn list_lead(m: usize, o: usize, n: usize, list: &mut [usize]) -> usi
     requires { ⌜ RowFits m o n ⌝ }
     ensures { λ r. ⌜ NotedAll (rowCode m o ∷ []) n (now (list .entry)) (now (list .exit)) r ⌝ }
 {
-    index_lists::note(list, n, row_marks::row_code(m, o));
+    index_lists::note(list, n, row_codes::row_code(m, o));
     n + 1
 }
 

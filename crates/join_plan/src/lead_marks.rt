@@ -8,35 +8,50 @@ ghost use Rattle.labels.specs.Names.{namesOf};
 ghost use Rattle.plan.specs.Keys.{KeyEnds};
 ghost use Rattle.side_parts.specs.Sides.{Positions};
 ghost use Rattle.side_parts.specs.Lent.{RecordsHeld, lent};
-ghost use Rattle.join_plan.specs.lead_marks.Marks.{LeadFound, editedHash, leadsIn, LeadsPut, LastsNoted};
+ghost use Rattle.join_plan.specs.lead_marks.Marks.{buckets, BucketNoted, LeadFound, editedHash, leadsIn};
+ghost use Rattle.join_plan.specs.lead_marks.Marks.{LeadsPut, LastsNoted};
 
-// The first leader before a place that gives the same edited tags, or the place; none stands before `first`. The
-// hashes only spare comparisons.
+// Notes a place at the bucket of its hash, where no place before it is noted, and gives the place that is then noted.
+fn note_bucket(table: &mut [u16], h: u64, o: usize) -> usize
+    requires { ⌜ length (now table) ≡ buckets ⌝ }
+    ensures { λ r. ⌜ BucketNoted (now (table .entry)) h o (now (table .exit)) r ⌝ }
+{
+    let b = (h % 512) as usize;
+    let n = table[b] as usize;
+    if o < n {
+        table[b] = o as u16;
+        return o;
+    }
+    n
+}
+
+// The first leader before a place that gives the same edited tags, or the place; those before `from` have other
+// hashes. The hashes only spare comparisons.
 fn find_lead<'a>(
     many: &'a [u8],
     array: &'a [u8],
     at: &[usize],
     leads: &[usize],
     hashes: &[u64],
-    first: usize,
+    from: usize,
     o: usize,
     h: u64,
     join: &[u8],
     skip: &[u8],
 ) -> usize
     requires { ⌜ Positions (now array) (now at) ⌝ }
-    requires { ⌜ first ≤ o ⌝ }
+    requires { ⌜ from ≤ o ⌝ }
     requires { ⌜ o + 1 < length (now at) ⌝ }
     requires { ⌜ o ≤ length (now leads) ⌝ }
     requires { ⌜ o ≤ length (now hashes) ⌝ }
     requires { ⌜ h ≡ editedHash (namesOf (now join)) (namesOf (now skip)) (now many) (now array) (now at) o ⌝ }
     ensures { λ r. ⌜
         LeadFound (namesOf (now (join .entry))) (namesOf (now (skip .entry))) (now (many .entry)) (now (array .entry))
-        (now (at .entry)) (now (leads .entry)) (now (hashes .entry)) first o r
+        (now (at .entry)) (now (leads .entry)) (now (hashes .entry)) from o r
         ⌝ }
 {
     let rec = side_parts::record(array, at, o);
-    let mut n = first;
+    let mut n = from;
     while n < o {
         let i = n;
         n += 1;
@@ -52,7 +67,8 @@ fn find_lead<'a>(
 }
 
 // For a many-side record of a key: each one-side series of the key, from its first place to its last, gets the place
-// of the earliest with the same edited tags. The hashes are a work array.
+// of the earliest with the same edited tags. The hashes are a work array; the first place of each bucket of them is
+// noted in a table, so that few places are searched.
 pub(crate) fn mark_leads<'a>(
     many: &'a [u8],
     k: usize,
@@ -81,13 +97,16 @@ pub(crate) fn mark_leads<'a>(
 {
     let join = lists[0];
     let skip = lists[1];
+    // 65535: nothing is noted
+    let mut table = [65535u16; 512];
     let mut i = first;
     while i <= last {
         let o = i;
         i += 1;
         if keys[o] == k {
             let h = set_tags::hash_edited(many, side_parts::record(array, at, o), join, skip);
-            leads[o] = find_lead(many, array, at, leads, hashes, first, o, h, join, skip);
+            let from = note_bucket(&mut table, h, o);
+            leads[o] = find_lead(many, array, at, leads, hashes, from, o, h, join, skip);
             hashes[o] = h;
         } else {
             leads[o] = key_ends::DROPPED;

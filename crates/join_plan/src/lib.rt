@@ -9,9 +9,7 @@ use answers::Planned;
 use join_series::Work;
 use side_parts::Shape;
 ghost use mathlib.Core.Path.{_≡_};
-ghost use Prim.Native.Nat.{_≤_};
 ghost use lib.ListN.{length};
-ghost use Rattle.model.specs.Limits.{maxSeries};
 ghost use Rattle.side_parts.specs.Lent.{Sides, sides, shapeOf, BothHeld};
 ghost use Rattle.answers.specs.Plans.{PlannedAs};
 ghost use Rattle.join_series.specs.Works.{manySide, workBy};
@@ -45,7 +43,6 @@ pub fn plan_join(
     ghost { Sides }
     requires { λ s. ⌜ sides (shapeOf shape) labels at keys rows ≡ s ⌝ }
     requires { λ s. ⌜ BothHeld s ⌝ }
-    requires { λ s. ⌜ length (now codes) ≤ maxSeries ⌝ }
     requires { λ s. ⌜ Clean 0 (now marks) ⌝ }
     ensures { λ s r. ⌜
         PlannedAs (firstClash (workBy w (lists .entry)) (manySide w) s) (joinCodes (workBy w (lists .entry)) s)

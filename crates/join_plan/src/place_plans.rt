@@ -8,7 +8,7 @@ ghost use Prim.Native.Nat.{_+_, _*_, _≤_};
 ghost use lib.ListN.{length};
 ghost use Rattle.labels.specs.Names.{namesOf};
 ghost use Rattle.side_parts.specs.Lent.{RecordsHeld, lent};
-ghost use Rattle.key_ends.specs.end_codes.Codes.{EndsOf};
+ghost use Rattle.key_ends.specs.Ends.{EndsOf};
 ghost use Rattle.join_plan.specs.lead_marks.Marks.{leadsIn, LastsNoted};
 ghost use Rattle.join_plan.specs.join_leads.Checks.{CodesFit};
 ghost use Rattle.join_plan.specs.place_plans.Places.{LeadsPlanned, PlaceDone, PlaceMarked, PlaceHeld};
@@ -77,8 +77,8 @@ pub(crate) fn plan_place(
         (now (codes .entry)) (now (marks .entry)) (now (codes .exit)) (now (marks .exit)) r
         ⌝ }
 {
-    let first = key_ends::side_first(c);
-    let last = key_ends::side_last(c);
+    let first = end_codes::side_first(c);
+    let last = end_codes::side_last(c);
     if first == last {
         if first == leads.len() {
             return Placed::Rows(n);
@@ -126,8 +126,8 @@ pub(crate) fn place_leads<'a>(
         (now (array .entry)) (now (at .entry)) (now (keys .entry))) (now (leads .exit)) (now (lasts .exit))
         ⌝ }
 {
-    let first = key_ends::side_first(c);
-    let last = key_ends::side_last(c);
+    let first = end_codes::side_first(c);
+    let last = end_codes::side_last(c);
     if first == last {
         return;
     }

@@ -5,8 +5,8 @@ use mathlib.Core.List.{List}
 use lib.ListN.{length}
 use Rattle.plan.specs.Merging.{row, mergeLead}
 use Rattle.side_parts.specs.Lent.{Sides}
-use Rattle.merging.specs.Marks.{MarksOf}
-use Rattle.merging.specs.MarkLaws.{marked-merged}
+use Rattle.overwriting.specs.Marks.{MarksOf}
+use Rattle.overwriting.specs.MarkLaws.{marked-merged}
 use Rattle.join_series.specs.join_rows.Rows.{markedRow}
 
 -- where the marks are those of the leads and all merge, the marked row is the merged one

@@ -14,7 +14,7 @@ use Rattle.plan.specs.Joins.{manyPlace, onePlace}
 use Rattle.side_parts.specs.Sides.{rowAt}
 use Rattle.side_parts.specs.Lent.{Sides, BothRowsHeld}
 use Rattle.answers.specs.Outcomes.{startingWith}
-use Rattle.merging.specs.MarkLaws.{marked-wide}
+use Rattle.overwriting.specs.MarkLaws.{marked-wide}
 use Rattle.row_marks.specs.Words.{unmarked}
 use Rattle.join_series.specs.declared.Work.{Work}
 use Rattle.join_series.specs.Works.{workedRow}

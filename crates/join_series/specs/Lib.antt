@@ -1,5 +1,4 @@
 pub mod Works
 pub mod Queries
 pub mod Series
-pub mod join_records
 pub mod join_rows

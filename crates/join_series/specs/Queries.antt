@@ -23,7 +23,8 @@ use Rattle.side_parts.specs.Sides.{labelsIn}
 use Rattle.side_parts.specs.SideLaws.{labels-at, labels-count}
 use Rattle.side_parts.specs.Lent.{Sides, sideLabels, Formed, BothHeld}
 use Rattle.join_series.specs.declared.Work.{Work}
-use Rattle.join_series.specs.Works.{manySide, workedRow, editedBy, edited-by, codedWork}
+use Rattle.join_records.specs.Edits.{editedBy, edited-by}
+use Rattle.join_series.specs.Works.{manySide, workedRow, codedWork}
 
 -- the work is that of a query, and the lists are its own
 pub record WorkOf (q : Query) (join skip : Names) (w : Work) : Type 0 where

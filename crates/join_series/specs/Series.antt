@@ -6,7 +6,7 @@ use Rattle.model.specs.Edits.{Names}
 use Rattle.model.specs.Vector.{Series}
 use Rattle.side_parts.specs.Lent.{Sides}
 use Rattle.join_series.specs.declared.Work.{Work}
-use Rattle.join_series.specs.join_records.Records.{codedJoinLabels}
+use Rattle.join_records.specs.Records.{codedJoinLabels}
 use Rattle.join_series.specs.join_rows.Rows.{codedJoinRow}
 
 -- the marks of row k: eight words

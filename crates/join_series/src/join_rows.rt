@@ -43,13 +43,13 @@ pub fn put_join_row(
     ensures { λ s _. ⌜ now (work .exit) ≡ workAfter s (now (marks .entry)) code (now (work .entry)) ⌝ }
 {
     let p = out.len();
-    let o = row_marks::one_place(code);
-    let many = side_parts::row(rows[0], p, row_marks::many_place(code));
+    let o = row_codes::one_place(code);
+    let many = side_parts::row(rows[0], p, row_codes::many_place(code));
     if row_marks::none_marked(marks) {
         apply_join(w, many, side_parts::row(rows[1], p, o), out);
         return;
     }
     let one = keys[1];
-    merging::put_marked(rows[1], marks, o, one.len(), &mut work[..p]);
+    overwriting::put_marked(rows[1], marks, o, one.len(), &mut work[..p]);
     apply_join(w, many, &work[..p], out);
 }

@@ -1,9 +1,6 @@
-// The answer series of a join by their row codes: the label record of a code, measured and written, and its row.
-mod join_records; // the label record of a code: measured, and written
+// What a join does with two series, and its answer rows by their codes.
 mod join_rows; // the answer row of a code
 
-pub use join_records::join_record_size;
-pub use join_records::put_join_record;
 pub use join_rows::put_join_row;
 use operator::Operator;
 use set_tags::Naming;

@@ -8,7 +8,8 @@ use native.Mathlib.Omega.{arith}
 use lib.ListN.{length, getD, take, drop, set, length-map, List·getD-append}
 use lib.Seq.{sets, sets-eq, length-sets, take-suc, take-all, drop-at, length-take-le, getD-append-add, getD-drop}
 use Rattle.model.specs.Laws.Lists.{map-at, sets-append}
-use Rattle.key_ends.specs.end_codes.Codes.{codes, bothCode, endsCode, pairCode, SideEnds, SideEndsPut, PairEndsPut, code-small}
+use Rattle.end_codes.specs.Codes.{codes, bothCode}
+use Rattle.key_ends.specs.Ends.{endsCode, pairCode, SideEnds, SideEndsPut, PairEndsPut, code-small}
 
 stored : (xs l : List ℕ) → length xs ≤ length l → sets l 0 xs ≡ xs ++ drop (length xs) l
 stored xs l h = sets-eq xs l 0 (omega (arith, h)) ∙ ap (λ n. xs ++ drop n l) (zero-add (length xs))

@@ -11,7 +11,8 @@ use lib.Seq.{drop-cons, getD-set-same, getD-set-other}
 use borrow.Author.Tests.{eqb-true, eqb-false, lt-ltb, le-ltb}
 use Rattle.model.specs.Lists.{cases}
 use Rattle.plan.specs.Keys.{firstOf, lastFrom, lastOf}
-use Rattle.key_ends.specs.end_codes.Codes.{sideCode, endsCode, first-small, last-small}
+use Rattle.end_codes.specs.Codes.{sideCode}
+use Rattle.key_ends.specs.Ends.{endsCode, first-small, last-small}
 use Rattle.key_ends.specs.Tables.{noted, Table}
 
 -- `note`

@@ -1,2 +1,2 @@
+pub mod Ends
 pub mod Tables
-pub mod end_codes

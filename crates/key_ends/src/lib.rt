@@ -1,21 +1,9 @@
 // The first and the last places of keys on two sides, found in linear time by tables of key numbers.
-mod end_codes; // the first and the last places of a key in one number, read off it
-mod key_places; // the first and the last place of a key, by a search
-
-pub use end_codes::both_code;
-pub use end_codes::left_first;
-pub use end_codes::left_last;
-pub use end_codes::right_first;
-pub use end_codes::right_last;
-pub use end_codes::side_first;
-pub use end_codes::side_last;
-pub use key_places::first_of;
-pub use key_places::last_of;
 ghost use mathlib.Core.Path.{_≡_};
 ghost use Prim.Native.Nat.{_+_, _*_, _≤_, _<_};
 ghost use lib.ListN.{length};
 ghost use Rattle.plan.specs.Keys.{firstOf, lastOf};
-ghost use Rattle.key_ends.specs.end_codes.Codes.{endsCode, SideEnds, SideEndsPut, PairEndsPut};
+ghost use Rattle.key_ends.specs.Ends.{endsCode, SideEnds, SideEndsPut, PairEndsPut};
 ghost use Rattle.key_ends.specs.Tables.{noted, Table};
 
 // The key number of a series that takes no part.

@@ -1,15 +1,28 @@
 // Series with only missing readings taken out: their key number becomes one that no key has.
 ghost use mathlib.Core.Path.{_≡_};
-ghost use Prim.Native.Nat.{_*_};
-ghost use lib.ListN.{length};
+ghost use Prim.Native.Nat.{_+_, _*_, _≤_};
+ghost use lib.ListN.{length, take, drop};
 ghost use Rattle.model.specs.Row.{onlyMissing};
 ghost use Rattle.keyed_sides.specs.Dropped.{keptNumber, droppedMissing};
 
-// Whether a row has no reading.
-fn only_missing(row: &[u64]) -> bool
-    ensures { λ r. ⌜ r ≡ onlyMissing (now (row .entry)) ⌝ }
+// Whether eight readings from a place on are all missing: their gaps are summed, with no branch between them.
+fn eight_missing(row: &[u64], i: usize) -> bool
+    requires { ⌜ i + 8 ≤ length (now row) ⌝ }
+    ensures { λ r. ⌜ r ≡ onlyMissing (take 8 (drop i (now (row .entry)))) ⌝ }
 {
-    let mut i: usize = 0;
+    let a = reading::gaps(row[i], row[i + 1]);
+    let b = reading::gaps(row[i + 2], row[i + 3]);
+    let c = reading::gaps(row[i + 4], row[i + 5]);
+    let d = reading::gaps(row[i + 6], row[i + 7]);
+    (a + b) + (c + d) == 8
+}
+
+// Whether a row has no reading from a place on.
+fn missing_from(row: &[u64], from: usize) -> bool
+    requires { ⌜ from ≤ length (now row) ⌝ }
+    ensures { λ r. ⌜ r ≡ onlyMissing (drop from (now (row .entry))) ⌝ }
+{
+    let mut i = from;
     while i < row.len() {
         if reading::is_missing(row[i]) {
             i += 1;
@@ -18,6 +31,21 @@ fn only_missing(row: &[u64]) -> bool
         }
     }
     true
+}
+
+// Whether a row has no reading: by eights, then what is left of it.
+fn only_missing(row: &[u64]) -> bool
+    ensures { λ r. ⌜ r ≡ onlyMissing (now (row .entry)) ⌝ }
+{
+    let mut i: usize = 0;
+    while 8 <= row.len() - i {
+        if eight_missing(row, i) {
+            i += 8;
+        } else {
+            return false;
+        }
+    }
+    missing_from(row, i)
 }
 
 // The number k, or that of a series that takes no part where its row has only missing readings.

@@ -1,6 +1,6 @@
 -- Merging: a turn and the end of each of its loops, and what it answers by what the tests found. Assumes nothing.
-use mathlib.Core.Path.{_≡_, refl, sym, _∙_}
-use mathlib.Core.Bool.{Bool, true, false, not, cond, _||_}
+use mathlib.Core.Path.{_≡_, refl, sym, ap, _∙_}
+use mathlib.Core.Bool.{Bool, true, false, not, cond, _||_, _&&_}
 use mathlib.Core.Option.{none, some}
 use mathlib.Core.List.{List, _++_, append-nil}
 use Prim.Native.Nat.{ℕ, suc, _+_, _-_, _≤_, _<_}
@@ -16,7 +16,7 @@ use Rattle.model.specs.Reading.{missing}
 use Rattle.model.specs.Row.{overlaps, overwritten, merged}
 use Rattle.merge.specs.declared.Merged.the-variants.{Done, Overlapping, Unequal}
 use Rattle.reading.specs.Gaps.{gapOf}
-use Rattle.merge.specs.Merging.{eitherGap, sourceFirst, mergedIf, MergedAs, mergedAlone}
+use Rattle.merge.specs.Merging.{eitherGap, sourceFirst, mergedIf, mergeable, MergedAs, mergedAlone}
 
 -- 1 where one is missing
 
@@ -171,6 +171,85 @@ module _ (allowance : ℕ) (d s : List ℕ) where
       go : (b : Bool) → mergedIf b d s ≡ cond (not b) none (some (overwritten d s))
       go true = refl
       go false = refl
+
+-- whether two merges succeed
+
+too-many : (allowance : ℕ) (d s : List ℕ) → allowance < overlaps d s → mergeable allowance d s ≡ false
+unfolding mergeable
+too-many allowance d s h = rw (lt-ltb allowance (overlaps d s) h) (go (leb (length d) 2))
+  where
+    go : (b : Bool) → not (b || true) ≡ false
+    go true = refl
+    go false = refl
+
+few : (allowance : ℕ) (d s : List ℕ) → overlaps d s ≤ allowance → mergeable allowance d s ≡ ltb 2 (length d)
+unfolding mergeable
+few allowance d s h =
+    rw (le-ltb allowance (overlaps d s) h, not-more (length d) 2 (leb (length d) 2) refl)
+    (go (leb (length d) 2))
+  where
+    go : (b : Bool) → not (b || false) ≡ not b
+    go true = refl
+    go false = refl
+
+-- i places are passed on both
+pub record CountedBoth (d s e t : List ℕ) (n m i : ℕ) : Type 0 where
+  pub one : Counted d s n i
+  pub other : Counted e t m i
+
+module _ (d s e t : List ℕ) where
+  pub both-start : CountedBoth d s e t 0 0 0
+  both-start = record { one = count-starts d s; other = count-starts e t }
+
+  module _ (n m i : ℕ) (k : CountedBoth d s e t n m i) where
+    pub one-below : n ≤ length d
+    one-below = count-below d s n i (k .one)
+
+    module _ (he : length e ≡ length d) where
+      pub other-below : m ≤ length d
+      other-below = rw (← he) (count-below e t m i (k .other))
+
+      module _ (hs : length s ≡ length d) (ht : length t ≡ length d) (h : i < length d)
+          (v : ℕ) (hv : v ≡ eitherGap (getD d i 0) (getD s i 0)) where
+        pub one-fits : n + v ≤ i + 1
+        one-fits = count-fits d s n i (k .one) v hv hs h
+
+        module _ (w : ℕ) (hw : w ≡ eitherGap (getD e i 0) (getD t i 0)) where
+          pub other-fits : m + w ≤ i + 1
+          other-fits = count-fits e t m i (k .other) w hw (ht ∙ sym he) (rw he h)
+
+          pub both-turn : CountedBoth d s e t (n + v) (m + w) (i + 1)
+          both-turn = record {
+            one = count-turn d s n i (k .one) v hv hs h;
+            other = count-turn e t m i (k .other) w hw (ht ∙ sym he) (rw he h);
+          }
+
+      module _ (over : length d ≤ i) (allowance : ℕ) where
+        one-told : length d - n ≡ overlaps d s
+        one-told = count-ends d s n i (k .one) over
+
+        other-told : length d - m ≡ overlaps e t
+        other-told = ap (λ (x : ℕ). x - m) (sym he) ∙ count-ends e t m i (k .other) (rw he over)
+
+        pub one-fails : allowance < length d - n → false ≡ (mergeable allowance d s && mergeable allowance e t)
+        one-fails h = rw (too-many allowance d s (rw one-told at h))
+
+        pub other-fails : allowance < length d - m → false ≡ (mergeable allowance d s && mergeable allowance e t)
+        other-fails h = rw (too-many allowance e t (rw other-told at h)) (go (mergeable allowance d s))
+          where
+            go : (b : Bool) → false ≡ (b && false)
+            go true = refl
+            go false = refl
+
+        pub both-told : length d - n ≤ allowance → length d - m ≤ allowance
+            → ltb 2 (length d) ≡ (mergeable allowance d s && mergeable allowance e t)
+        both-told hn hm =
+            rw (few allowance d s (rw one-told at hn), few allowance e t (rw other-told at hm), he)
+            (go (ltb 2 (length d)))
+          where
+            go : (b : Bool) → b ≡ (b && b)
+            go true = refl
+            go false = refl
 
 -- overwriting, into a third row
 

@@ -1,8 +1,9 @@
 // One row merged into another.
 ghost use mathlib.Core.Path.{_≡_};
+ghost use mathlib.Core.Bool.{_&&_};
 ghost use lib.ListN.{length};
 ghost use Rattle.model.specs.Row.{overlaps, overwritten, merged};
-ghost use Rattle.merge.specs.Merging.{eitherGap, sourceFirst, mergedIf, MergedAs};
+ghost use Rattle.merge.specs.Merging.{eitherGap, sourceFirst, mergedIf, mergeable, MergedAs};
 
 pub enum Merged {
     Done,
@@ -76,6 +77,40 @@ pub fn merges(dst: &[u64], src: &[u64], allowance: usize) -> bool
         return false;
     }
     overlaps(dst, src) <= allowance
+}
+
+// Whether two rows merge, each into its own destination; nothing is written. All four are read in one pass: memory
+// serves four rows side by side sooner than two and then two.
+pub fn both_merge(
+    dst: &[u64],
+    src: &[u64],
+    other_dst: &[u64],
+    other_src: &[u64],
+    allowance: usize,
+) -> bool
+    requires { ⌜ length (now src) ≡ length (now dst) ⌝ }
+    requires { ⌜ length (now «other_dst») ≡ length (now dst) ⌝ }
+    requires { ⌜ length (now «other_src») ≡ length (now dst) ⌝ }
+    ensures { λ r. ⌜
+        r ≡ (mergeable allowance (now (dst .entry)) (now (src .entry))
+        && mergeable allowance (now («other_dst» .entry)) (now («other_src» .entry)))
+        ⌝ }
+{
+    let mut n: usize = 0;
+    let mut m: usize = 0;
+    let mut i: usize = 0;
+    while i < dst.len() {
+        n += either_gap(dst[i], src[i]);
+        m += either_gap(other_dst[i], other_src[i]);
+        i += 1;
+    }
+    if allowance < dst.len() - n {
+        return false;
+    }
+    if allowance < dst.len() - m {
+        return false;
+    }
+    2 < dst.len()
 }
 
 // Writes the source's readings over the destination's into a third row.

@@ -4,7 +4,6 @@ use mathlib.Core.Path.{_≡_, refl, sym, ap, _∙_}
 use mathlib.Core.Bool.{Bool, true, false}
 use mathlib.Core.Option.{Option, none, some}
 use mathlib.Core.List.{List}
-use native.Mathlib.Nat.{mul-le-mul-right, suc-mul}
 use native.Mathlib.Numerals.{add-one}
 use native.Mathlib.Omega.{arith}
 use lib.Dec.{eqb}
@@ -18,6 +17,7 @@ use Rattle.merge.specs.declared.Merged.the-variants as M
 use Rattle.merge.specs.Merging.{done, overlapping, refused, doneOr, mergedAlone, MergedAs}
 use Rattle.plan.specs.Merging.{RowMerge, row, failedAt, onRow, mergeGroup, mergeLead}
 use Rattle.side_parts.specs.Sides.{rowAt}
+use Rattle.answers.proofs.Rows.{row-in, row-width}
 use Rattle.merging.specs.declared.Merges.{Merges}
 use Rattle.merging.specs.declared.Merges.the-variants.{Done, FailedAt}
 use Rattle.merging.specs.Groups.{absorbedOne, thereIf, AbsorbedAs, MergedGroup}
@@ -103,7 +103,7 @@ module _ (allowance : ℕ) (rows groups : List ℕ) (g : ℕ) where
   module _ (p to i : ℕ) (d : List ℕ) (want : RowMerge) (inv : Merging-on allowance p rows groups g to i d want) where
     module _ (h : i < to) (k : to ≤ length groups) where
       pub between-row : length groups * p ≤ length rows → i * length d + length d ≤ length rows
-      between-row room = rw (inv .long) (let z : i * p + p ≤ length groups * p = rw (← suc-mul) (mul-le-mul-right p (omega arith)) in omega arith)
+      between-row room = rw (inv .long) (omega (arith, row-in i (length groups) p (omega arith)))
 
       next : onRow (absorbedOne allowance rows (getD groups i 0) g i d) (failedAt i d)
           (mergeGroup allowance (length d) rows g (suc i) (take (to - suc i) (drop (suc i) groups))) ≡ want
@@ -139,20 +139,13 @@ module _ (allowance : ℕ) (rows groups : List ℕ) (g : ℕ) where
 
 -- `merge_lead`
 
-pub row-of : (i n p : ℕ) (rows : List ℕ) → i < n → n * p ≤ length rows → i * p + p ≤ length rows
-row-of i n p rows h room = let z : i * p + p ≤ n * p = rw (← suc-mul) (mul-le-mul-right p (omega arith)) in omega arith
-
-pub row-long : (i n p : ℕ) (rows : List ℕ) → i < n → n * p ≤ length rows → length (rowAt p rows i) ≡ p
-row-long i n p rows h room =
-    length-take-le p (drop (i * p) rows) (let z = row-of i n p rows h room in omega (arith, z, length-drop (i * p) rows))
-
 module _ (rows keys : List ℕ) (p : ℕ) (room : length keys * p ≤ length rows) where
   module _ (o : ℕ) (h : o < length keys) where
     pub lead-row : o * p + p ≤ length rows
-    lead-row = row-of o (length keys) p rows h room
+    lead-row = omega (arith, row-in o (length keys) p h)
 
     pub lead-long : (s : List ℕ) → s ≡ rowAt p rows o → length s ≡ p
-    lead-long s hs = rw hs (row-long o (length keys) p rows h room)
+    lead-long s hs = row-width p rows s o lead-row hs
 
     pub lead-room : (s d : List ℕ) → s ≡ rowAt p rows o → d ≡ s → length keys * length d ≤ length rows
     lead-room s d hs hd = let e : length d ≡ p = rw hd (lead-long s hs) in rw e room

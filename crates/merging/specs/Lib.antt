@@ -1,6 +1,1 @@
 pub mod Groups
-pub mod Overwriting
-pub mod OverLaws
-pub mod Several
-pub mod Marks
-pub mod MarkLaws

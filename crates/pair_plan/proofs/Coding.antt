@@ -19,16 +19,16 @@ use Rattle.plan.specs.Merging.{RowMerge, row, failedAt, mergeLast, rowOf, clash
 use Rattle.plan.specs.Pairs.{isPair, pairClash, pairsClash, pairsFrom, pairRow, pairSeries, noLabels}
 use Rattle.plan.specs.Laws.Common.{both-none}
 use Rattle.plan.specs.Laws.Ends.{last-within, last-is, first-last}
-use Rattle.merging.specs.Several.{single-row, several-row}
-use Rattle.key_ends.specs.end_codes.Codes.{pairCode, CodeOf, leftFirst, leftLast, rightFirst, rightLast}
-use Rattle.key_ends.specs.end_codes.Codes.{left-last, right-last, left-ends, right-ends}
+use Rattle.overwriting.specs.Several.{single-row, several-row}
+use Rattle.end_codes.specs.Codes.{leftFirst, leftLast, rightFirst, rightLast}
+use Rattle.key_ends.specs.Ends.{pairCode, CodeOf, left-last, right-last, left-ends, right-ends}
 use Rattle.side_parts.specs.Sides.{recordAt}
 use Rattle.side_parts.specs.SideLaws.{labels-at}
 use Rattle.side_parts.specs.Lent.{Sides, sideLabels, BothHeld}
-use Rattle.pair_series.specs.pair_records.Records.{codedPairLabels}
+use Rattle.pair_records.specs.Records.{codedPairLabels}
 use Rattle.pair_series.specs.pair_rows.Rows.{codedSide, codedPairRow, PairCode}
 use Rattle.pair_series.specs.Answers.{codedPairSeries}
-use Rattle.pair_series.proofs.Adjusting.{adjusted-kept}
+use Rattle.pair_records.proofs.Adjusting.{adjusted-kept}
 use Rattle.pair_plan.specs.pairs.Pairing.{codesFrom, pairCodes}
 use Rattle.pair_plan.specs.pair_checks.Checks.{failureOf}
 use Rattle.pair_plan.proofs.pairs.Pairing.{pair-left, pair-right}

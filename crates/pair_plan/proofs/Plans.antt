@@ -9,8 +9,8 @@ use Rattle.side_parts.specs.Lent.{Sides, rowSides}
 use Rattle.semantics.specs.Events.{Duplicate}
 use Rattle.semantics.specs.Binop.{allowedOverlaps}
 use Rattle.query.specs.declared.Query.{Query}
-use Rattle.query.specs.allowance.Allowances.{allowedBy}
-use Rattle.pair_series.specs.adjusted_labels.Edits.{pairQuery}
+use Rattle.query_rules.specs.Allowances.{allowedBy}
+use Rattle.pair_records.specs.adjusted_labels.Edits.{pairQuery}
 use Rattle.index_lists.specs.Places.{NotedAll}
 use Rattle.answers.specs.declared.Planned.the-variants as P
 use Rattle.answers.specs.Plans.{PlannedAs}

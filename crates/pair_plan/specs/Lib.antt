@@ -1,2 +1,3 @@
+pub mod tried_merges
 pub mod pairs
 pub mod pair_checks

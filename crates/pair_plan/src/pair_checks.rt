@@ -3,13 +3,15 @@ use crate::pairs;
 use crate::tried_merges;
 use merging::Merges;
 ghost use mathlib.Core.Path.{_≡_};
+ghost use mathlib.Core.Bool.{true};
+ghost use mathlib.Core.Option.{none};
 ghost use Prim.Native.Nat.{_≤_, _<_};
 ghost use lib.ListN.{length, getD};
 ghost use Rattle.plan.specs.Keys.{firstOf, KeyEnds};
 ghost use Rattle.plan.specs.Merging.{mergeLast};
 ghost use Rattle.plan.specs.Pairs.{pairClash, pairsClash};
 ghost use Rattle.side_parts.specs.Lent.{RowsHeld, unlabelled, BothRowsHeld, Sides};
-ghost use Rattle.key_ends.specs.end_codes.Codes.{CodeOf, PairEnds};
+ghost use Rattle.key_ends.specs.Ends.{CodeOf, PairEnds};
 ghost use Rattle.pair_plan.specs.pair_checks.Checks.{failureOf, failedIn, clashIn, clashAt};
 
 // Whether several series of a key become a single one: the first is tried on the last with no copy, and only where
@@ -103,12 +105,12 @@ fn check_pair(
     ensures { λ s r. ⌜ clashIn r ≡ pairClash allowance s k ⌝ }
     ensures { λ s r. ⌜ length (now (work .exit)) ≡ length (now (work .entry)) ⌝ }
 {
-    let last = key_ends::left_last(c);
+    let last = end_codes::left_last(c);
     match ensure_single_timeseries(
         rows[0],
         keys[0],
         k,
-        key_ends::left_first(c),
+        end_codes::left_first(c),
         last,
         p,
         allowance,
@@ -116,12 +118,12 @@ fn check_pair(
     ) {
         Merges::FailedAt(failed) => Checked::Left { kept: last, failed },
         Merges::Done => {
-            let last = key_ends::right_last(c);
+            let last = end_codes::right_last(c);
             match ensure_single_timeseries(
                 rows[1],
                 keys[1],
                 k,
-                key_ends::right_first(c),
+                end_codes::right_first(c),
                 last,
                 p,
                 allowance,
@@ -132,6 +134,67 @@ fn check_pair(
             }
         }
     }
+}
+
+// Whether the two series of a key on each side merge, where it has exactly two there: both sides are tried at once.
+fn two_merge(
+    allowance: usize,
+    p: usize,
+    keys: [&[usize]; 2],
+    rows: [&[u64]; 2],
+    k: usize,
+    c: usize,
+) -> bool
+    ghost { Sides }
+    requires { λ s. ⌜ unlabelled p keys rows ≡ s ⌝ }
+    requires { λ s. ⌜ BothRowsHeld s ⌝ }
+    requires { λ s. ⌜ CodeOf (s .left .keys) (s .right .keys) k c ⌝ }
+    requires { λ s. ⌜ firstOf (s .left .keys) k < length (s .left .keys) ⌝ }
+    requires { λ s. ⌜ firstOf (s .right .keys) k < length (s .right .keys) ⌝ }
+    ensures { λ s r. ⌜ (r ≡ true → none ≡ pairClash allowance s k) ⌝ }
+{
+    let first = end_codes::left_first(c);
+    let last = end_codes::left_last(c);
+    if tried_merges::are_two(keys[0], k, first, last) {
+        let other_first = end_codes::right_first(c);
+        let other_last = end_codes::right_last(c);
+        if tried_merges::are_two(keys[1], k, other_first, other_last) {
+            return merge::both_merge(
+                side_parts::row(rows[0], p, last),
+                side_parts::row(rows[0], p, first),
+                side_parts::row(rows[1], p, other_last),
+                side_parts::row(rows[1], p, other_first),
+                allowance,
+            );
+        }
+    }
+    false
+}
+
+// Both sides of a key: at once where they merge so, else the left one first.
+fn try_pair(
+    allowance: usize,
+    p: usize,
+    keys: [&[usize]; 2],
+    rows: [&[u64]; 2],
+    k: usize,
+    c: usize,
+    work: &mut [u64],
+) -> Checked
+    ghost { Sides }
+    requires { λ s. ⌜ unlabelled p keys rows ≡ s ⌝ }
+    requires { λ s. ⌜ BothRowsHeld s ⌝ }
+    requires { λ s. ⌜ CodeOf (s .left .keys) (s .right .keys) k c ⌝ }
+    requires { λ s. ⌜ firstOf (s .left .keys) k < length (s .left .keys) ⌝ }
+    requires { λ s. ⌜ firstOf (s .right .keys) k < length (s .right .keys) ⌝ }
+    requires { λ s. ⌜ p ≤ length (now work) ⌝ }
+    ensures { λ s r. ⌜ clashIn r ≡ pairClash allowance s k ⌝ }
+    ensures { λ s r. ⌜ length (now (work .exit)) ≡ length (now (work .entry)) ⌝ }
+{
+    if two_merge(allowance, p, keys, rows, k, c) {
+        return Checked::Fine;
+    }
+    check_pair(allowance, p, keys, rows, k, c, work)
 }
 
 // The merges of the answer series that a left place gives, if it gives one.
@@ -155,7 +218,7 @@ fn check_at(
 {
     let lkeys = keys[0];
     if pairs::is_pair(lkeys, keys[1], ends, i) {
-        check_pair(allowance, p, keys, rows, lkeys[i], ends[i], work)
+        try_pair(allowance, p, keys, rows, lkeys[i], ends[i], work)
     } else {
         Checked::Fine
     }

@@ -3,7 +3,7 @@ ghost use mathlib.Core.Path.{_≡_};
 ghost use Prim.Native.Nat.{_<_};
 ghost use lib.ListN.{length, getD};
 ghost use Rattle.plan.specs.Pairs.{isPair};
-ghost use Rattle.key_ends.specs.end_codes.Codes.{PairEnds};
+ghost use Rattle.key_ends.specs.Ends.{PairEnds};
 ghost use Rattle.index_lists.specs.Places.{NotedAll};
 ghost use Rattle.pair_plan.specs.pairs.Pairing.{codesFrom};
 
@@ -16,10 +16,10 @@ pub(crate) fn is_pair(lkeys: &[usize], rkeys: &[usize], ends: &[usize], i: usize
     if lkeys[i] == key_ends::DROPPED {
         return false;
     }
-    if key_ends::left_first(ends[i]) != i {
+    if end_codes::left_first(ends[i]) != i {
         return false;
     }
-    key_ends::right_first(ends[i]) < rkeys.len()
+    end_codes::right_first(ends[i]) < rkeys.len()
 }
 
 // Notes the codes of the answer, in answer order and as far as the list goes, and gives their number.

@@ -7,6 +7,7 @@ ghost use Rattle.model.specs.Row.{merged};
 ghost use Rattle.merge.specs.Merging.{mergedIf};
 ghost use Rattle.plan.specs.Keys.{firstOf};
 ghost use Rattle.side_parts.specs.Sides.{rowAt};
+ghost use Rattle.pair_plan.specs.tried_merges.Tries.{twoAt};
 
 // Whether a key stands between two places.
 pub(crate) fn stands_between(keys: &[usize], k: usize, from: usize, to: usize) -> bool
@@ -14,7 +15,21 @@ pub(crate) fn stands_between(keys: &[usize], k: usize, from: usize, to: usize) -
     requires { ⌜ to ≤ length (now keys) ⌝ }
     ensures { λ r. ⌜ r ≡ ltb (firstOf (take (to - from) (drop from (now (keys .entry)))) k) (to - from) ⌝ }
 {
-    key_ends::first_of(&keys[from..to], k) < to - from
+    key_places::first_of(&keys[from..to], k) < to - from
+}
+
+// Whether a key has exactly two series on a side, whose places are given.
+pub(crate) fn are_two(keys: &[usize], k: usize, first: usize, last: usize) -> bool
+    requires { ⌜ last ≤ length (now keys) ⌝ }
+    ensures { λ r. ⌜ r ≡ twoAt (now (keys .entry)) k first last ⌝ }
+{
+    if last <= first {
+        return false;
+    }
+    if stands_between(keys, k, first + 1, last) {
+        return false;
+    }
+    true
 }
 
 // Whether the row of one series merges into that of another; nothing is written.

@@ -1,2 +1,1 @@
-pub mod Adjusting
 pub mod Widths

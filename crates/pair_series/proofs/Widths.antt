@@ -12,11 +12,11 @@ use Rattle.model.specs.Reading.{scalarOp}
 use Rattle.model.specs.Laws.Row.{zip-wide}
 use Rattle.side_parts.specs.Sides.{rowAt}
 use Rattle.side_parts.specs.Lent.{RowsHeld, BothRowsHeld, Sides}
-use Rattle.merging.specs.Overwriting.{rowOfSeveral}
-use Rattle.merging.specs.OverLaws.{several-wide}
+use Rattle.overwriting.specs.Overwriting.{rowOfSeveral}
+use Rattle.overwriting.specs.OverLaws.{several-wide}
 use Rattle.answers.specs.Outcomes.{startingWith}
 use Rattle.answers.proofs.Rows.{row-in, row-width}
-use Rattle.key_ends.specs.end_codes.Codes.{leftFirst, leftLast, rightFirst, rightLast}
+use Rattle.end_codes.specs.Codes.{leftFirst, leftLast, rightFirst, rightLast}
 use Rattle.pair_series.specs.pair_rows.Rows.{codedSide, codedPairRow, PairCode}
 use Rattle.pair_series.specs.pair_rows.Rows.{sideWork, leftWork, rightWork}
 

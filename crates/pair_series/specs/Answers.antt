@@ -3,7 +3,7 @@ use Prim.Native.Nat.{ℕ}
 use Rattle.model.specs.Query as Model
 use Rattle.model.specs.Vector.{Series}
 use Rattle.side_parts.specs.Lent.{Sides}
-use Rattle.pair_series.specs.pair_records.Records.{codedPairLabels}
+use Rattle.pair_records.specs.Records.{codedPairLabels}
 use Rattle.pair_series.specs.pair_rows.Rows.{codedPairRow}
 
 -- the labels and the row of a code, whatever code it is

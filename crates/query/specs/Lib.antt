@@ -1,4 +1,3 @@
 pub mod Queries
 pub mod operator_table
 pub mod list_ends
-pub mod allowance

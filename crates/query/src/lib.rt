@@ -1,13 +1,9 @@
 // Queries, taken from bytes.
-mod allowance; // how many places a merge may overlap
 mod list_ends; // where a label list ends
-mod metric_group; // whether the names of an answer's series are cleared
 mod operator_table; // the constant table that a query's operator byte indexes
 
 use crate::list_ends::ListEnd;
-pub use allowance::allowed_overlaps;
 use labels::Matching;
-pub use metric_group::should_reset_metric_group;
 use operator::Coded;
 use operator::Operator;
 ghost use mathlib.Core.Path.{_≡_};

@@ -6,7 +6,7 @@ use native.Mathlib.Omega.{arith}
 use lib.Dec.{T, ltb}
 use lib.Ieee.{Float, nan, inf, fin, binary64, ofBits, toBits, nanBits, isNan, ne, lt, le, eq, add, sub, neg, mul, div, rem}
 use lib.Ieee.Bits.{nanBits-is, nanBits-above}
-use lib.Ieee.Compare.{nan-differs}
+use lib.Ieee.Compare.{nan-differs, differs-from-itself}
 use borrow.Author.Tests.{ltb-true, ltb-false}
 use Rattle.operator.specs.Kinds.{Arithmetic, sum, difference, product, quotient, remainder}
 use Rattle.model.specs.Lists.{cases}
@@ -45,6 +45,16 @@ unfolding isNan
 present nan h = absurd (subst T (sym nan-differs ∙ h) tt)
 present (inf s) h = tt
 present (fin s m e) h = tt
+
+-- a float that equals itself is no `nan`, and one that does not is
+
+pub present-equal : (x : Float) → eq x x ≡ true → T (not (isNan x))
+unfolding ne
+present-equal x h = present x (rw h)
+
+pub nan-unequal : (x : Float) → eq x x ≡ false → x ≡ nan
+unfolding ne
+nan-unequal x h = differs-from-itself x (yes {b = ne x x} (rw h))
 
 -- `gap` by a sum and a shift
 

@@ -19,11 +19,12 @@ pub fn is_missing(x: u64) -> bool
     x % 0x8000_0000_0000_0000 > 0x7ff0_0000_0000_0000
 }
 
-// The pattern of any float: MISSING for a NaN.
+// The pattern of any float: MISSING for a NaN. MISSING stands in the second arm: behind a test for gaps, a gap and a NaN are
+// then one choice.
 pub fn written(x: f64) -> u64
     ensures { λ r. ⌜ r ≡ toBits binary64 x ⌝ }
 {
-    if x != x { MISSING } else { f64::to_bits(x) }
+    if x == x { f64::to_bits(x) } else { MISSING }
 }
 
 // 1 where x is missing, else 0: a mask, a sum and a shift, which a loop over a row does two at a time.

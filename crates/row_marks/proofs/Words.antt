@@ -14,7 +14,7 @@ use lib.ListN.{length, getD, take, drop, set, drop-of-length-le, length-set, len
 use lib.Seq.{drop-cons, drop-length, take-all, getD-set-same, getD-set-other, getD-take, getD-drop}
 use borrow.Author.Tests.{eq-eqb, ne-eqb, ltb-true, ltb-false}
 use Rattle.model.specs.Lists.{cases}
-use Rattle.merging.specs.Marks.{bit}
+use Rattle.overwriting.specs.Marks.{bit}
 use Rattle.row_marks.specs.Words.{unmarked, wordOf, ChangedIn, wordCount, WordsPut, membersTo}
 use Rattle.row_marks.specs.WordLaws.{bit-zero}
 

@@ -5,7 +5,7 @@ use mathlib.Core.Bool.{Bool, true, _&&_, cond}
 use mathlib.Core.List.{List, [], _∷_}
 use lib.Dec.{eqb, ltb}
 use lib.ListN.{length, getD, take, drop}
-use Rattle.merging.specs.Marks.{bit}
+use Rattle.overwriting.specs.Marks.{bit}
 
 -- leads as a number: bit j is set where lead j is the place o
 unfoldable pub wordOf : ℕ → List ℕ → ℕ
@@ -37,7 +37,11 @@ pub record WordsPut (leads : List ℕ) (o at : ℕ) (before after : List ℕ) : 
 abbrev pub membersTo : ℕ → ℕ → List ℕ → List ℕ
 membersTo o last leads = take (last - o) (drop (o + 1) leads)
 
--- the marks of the leader o, from the place `at` on
+-- whether the place j + 1 behind o is one of the leads' and has the leader o
+abbrev pub ledBehind : List ℕ → ℕ → ℕ → Bool
+ledBehind leads o j = ltb (suc o + j) (length leads) && eqb (getD leads (suc o + j) 0) o
+
+-- the marks of the leader o, eight words from the place `at` on: bit j of all 512 is set where the place j + 1 behind o
+-- has it as its leader, and nowhere else
 pub record MarksAt (leads : List ℕ) (o at : ℕ) (marks : List ℕ) : Type 0 where
-  pub each : (j : ℕ) → suc o + j < length leads
-      → bit (getD marks (at + j / 64) 0) (j % 64) ≡ eqb (getD leads (suc o + j) 0) o
+  pub each : (j : ℕ) → j < 512 → bit (getD marks (at + j / 64) 0) (j % 64) ≡ ledBehind leads o j

@@ -1,33 +1,11 @@
-// The answer rows of a join: a many-side place and a one-side place as one number, the row's code; and the members
-// behind the one-side place, which leads them, as marks: eight words of 64 bits a row.
+// The members of an answer row of a join behind its one-side place, which leads them, as marks: eight words of 64 bits a
+// row.
 ghost use mathlib.Core.Path.{_≡_};
 ghost use mathlib.Core.Bool.{cond};
 ghost use Prim.Native.Nat.{_+_, _*_, _≤_, _<_};
 ghost use lib.Dec.{eqb};
 ghost use lib.ListN.{length, take, drop};
-ghost use Rattle.plan.specs.Joins.{rowCode, manyPlace, onePlace};
 ghost use Rattle.row_marks.specs.Words.{unmarked, wordOf, membersTo, WordsPut};
-
-// The code of the answer row of a many-side place and a one-side place.
-pub fn row_code(m: usize, o: usize) -> usize
-    requires { ⌜ m ≤ 512 ⌝ }
-    requires { ⌜ o ≤ 512 ⌝ }
-    ensures { λ r. ⌜ r ≡ rowCode m o ⌝ }
-{
-    m * 512 + o
-}
-
-pub fn many_place(x: usize) -> usize
-    ensures { λ r. ⌜ r ≡ manyPlace x ⌝ }
-{
-    x / 512
-}
-
-pub fn one_place(x: usize) -> usize
-    ensures { λ r. ⌜ r ≡ onePlace x ⌝ }
-{
-    x % 512
-}
 
 // 1 where a lead is the place o, else 0.
 fn led_by(x: usize, o: usize) -> usize

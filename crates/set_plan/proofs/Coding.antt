@@ -18,11 +18,12 @@ use Rattle.plan.specs.Sets.{leftsFrom, rightsFrom, setRows, setSeries}
 use Rattle.plan.specs.Laws.Sets.{rule-by}
 use Rattle.plan.specs.Laws.Sides.{labels-many}
 use Rattle.side_parts.specs.Lent.{Sides, BothHeld, sideLabels}
-use Rattle.key_ends.specs.end_codes.Codes.{codes, endsCode, sideFirst, sideLast}
-use Rattle.key_ends.specs.end_codes.Codes.{both-left, both-right, code-small, EndsOf, side-first, side-last}
+use Rattle.end_codes.specs.Codes.{codes, sideFirst, sideLast, both-left, both-right}
+use Rattle.key_ends.specs.Ends.{endsCode, code-small, EndsOf, side-first, side-last}
 use Rattle.index_lists.specs.Places.{codedMet}
 use Rattle.index_lists.proofs.Meeting.{met-fallen, met-kept}
-use Rattle.set_series.specs.Series.{rowPlace, SetCode, codedPlaces, codedSetSeries}
+use Rattle.set_records.specs.Records.{rowPlace}
+use Rattle.set_series.specs.Series.{SetCode, codedPlaces, codedSetSeries}
 use Rattle.set_plan.specs.Codes.{metCode, setCode, setCodes}
 use Rattle.set_plan.specs.set_listing.Lists.{SetHeld}
 

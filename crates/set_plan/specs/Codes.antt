@@ -6,7 +6,8 @@ use lib.Dec.{eqb, ltb}
 use lib.ListN.{length, getD}
 use Rattle.plan.specs.Sets.{SetWork, setRows}
 use Rattle.side_parts.specs.Lent.{Sides}
-use Rattle.key_ends.specs.end_codes.Codes.{sideCode, bothCode, endsCode, sideFirst}
+use Rattle.end_codes.specs.Codes.{sideCode, bothCode, sideFirst}
+use Rattle.key_ends.specs.Ends.{endsCode}
 
 -- the ends of what a left series meets, by those of its key among `count` right series: the first place twice where it has
 -- none there and the rule falls back

@@ -14,7 +14,7 @@ ghost use Rattle.set_plan.specs.left_series.Answering.{Answered};
 pub(crate) fn met_ends(falls: bool, count: usize, e: usize) -> usize
     ensures { λ r. ⌜ r ≡ fallen falls count e ⌝ }
 {
-    if key_ends::side_first(e) == count {
+    if end_codes::side_first(e) == count {
         if falls {
             return 0;
         }
@@ -79,8 +79,8 @@ pub(crate) fn left_answers(
 {
     let m = index_lists::met(
         keys,
-        key_ends::side_first(e),
-        key_ends::side_last(e),
+        end_codes::side_first(e),
+        end_codes::side_last(e),
         places,
     );
     answers_with(rule, left, rows, &places[..m])

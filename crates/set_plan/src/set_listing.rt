@@ -6,7 +6,7 @@ ghost use Prim.Native.Nat.{_≤_};
 ghost use lib.ListN.{length};
 ghost use Rattle.model.specs.Limits.{maxSeries};
 ghost use Rattle.side_parts.specs.Lent.{Sides, unlabelled};
-ghost use Rattle.key_ends.specs.end_codes.Codes.{SideEnds};
+ghost use Rattle.key_ends.specs.Ends.{SideEnds};
 ghost use Rattle.index_lists.specs.Places.{NotedAll};
 ghost use Rattle.set_plan.specs.Codes.{setCodes};
 ghost use Rattle.set_plan.specs.set_operators.Works.{meantWork};
@@ -40,7 +40,7 @@ fn list_left(
         let e = left_series::met_ends(w.falls, right_keys.len(), ends[i]);
         let left = side_parts::row(rows[0], p, i);
         let here = left_series::left_answers(rule, left, right_keys, rows[1], e, places);
-        n = index_lists::note_if(here, key_ends::both_code(i, e), n, list);
+        n = index_lists::note_if(here, end_codes::both_code(i, e), n, list);
         i += 1;
     }
     n
@@ -66,8 +66,8 @@ fn list_right(
     let mut r = n;
     let mut j: usize = 0;
     while j < keys.len() {
-        let here = key_ends::side_first(ends[j]) == left_keys.len();
-        r = index_lists::note_if(here, key_ends::both_code(left_keys.len() + j, 0), r, list);
+        let here = end_codes::side_first(ends[j]) == left_keys.len();
+        r = index_lists::note_if(here, end_codes::both_code(left_keys.len() + j, 0), r, list);
         j += 1;
     }
     r

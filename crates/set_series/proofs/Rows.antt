@@ -13,11 +13,12 @@ use Rattle.semantics.specs.Binop.{pointwise}
 use Rattle.side_parts.specs.Sides.{rowAt}
 use Rattle.side_parts.specs.Lent.{Sides, RowsHeld, BothRowsHeld}
 use Rattle.plan.specs.Sets.{setPoint, firstAt, setRow, leftRow}
-use Rattle.key_ends.specs.end_codes.Codes.{rightFirst, rightLast}
+use Rattle.end_codes.specs.Codes.{rightFirst, rightLast}
 use Rattle.answers.proofs.Rows as Rows
 use Rattle.answers.proofs.Rows.{row-width}
 use Rattle.set_series.specs.left_rows.Rows.{LeftRowPut}
-use Rattle.set_series.specs.Series.{rowPlace, SetCode, codedPlaces, codedSetRow, SetRowPut}
+use Rattle.set_records.specs.Records.{rowPlace}
+use Rattle.set_series.specs.Series.{SetCode, codedPlaces, codedSetRow, SetRowPut}
 
 -- a row of a side lies within its readings
 pub row-in : (p : ℕ) (keys rows : List ℕ) (i : ℕ) → RowsHeld p rows keys → i < length keys → i * p + p ≤ length rows

@@ -1,5 +1,5 @@
--- The answer series of a code of a set rule: its place, its labels, its row. Assumes nothing.
-use Prim.Native.Nat.{ℕ, _+_, _-_, _≤_, _<_}
+-- The answer series of a code of a set rule: its labels are those of its place, its row is by what it meets. Assumes nothing.
+use Prim.Native.Nat.{ℕ, _+_, _-_, _<_}
 use mathlib.Core.Path.{_≡_}
 use mathlib.Core.Bool.{cond}
 use mathlib.Core.List.{List, []}
@@ -7,37 +7,22 @@ use lib.Dec.{ltb}
 use lib.ListN.{length}
 use lib.Seq.{sets}
 use Rattle.operator.specs.Kinds.{SetRule}
-use Rattle.model.specs.Limits.{maxLabelBytes}
-use Rattle.model.specs.Labels.{Labels}
-use Rattle.model.specs.Record.{encode}
 use Rattle.model.specs.Vector.{Series}
-use Rattle.record_tags.specs.Lenient.{labelsOf}
-use Rattle.plan.specs.Sets.{leftRow, setLabels}
+use Rattle.plan.specs.Sets.{leftRow}
 use Rattle.side_parts.specs.Sides.{rowAt}
-use Rattle.side_parts.specs.Lent.{Sides, recordCount}
-use Rattle.key_ends.specs.end_codes.Codes.{leftLast, rightFirst, rightLast}
+use Rattle.side_parts.specs.Lent.{Sides}
+use Rattle.end_codes.specs.Codes.{rightFirst, rightLast}
 use Rattle.index_lists.specs.Places.{codedMet}
+use Rattle.set_records.specs.Records.{rowPlace, codedSetLabels}
 use Rattle.set_series.specs.left_rows.Rows.{listedMet}
-
--- the place of a code's row: a left place, or a right one counted behind the left ones
-abbrev pub rowPlace : ℕ → ℕ
-rowPlace c = leftLast c
 
 -- a code whose place has a row
 pub record SetCode (s : Sides) (c : ℕ) : Type 0 where
   pub below : rowPlace c < length (s .left .keys) + length (s .right .keys)
 
--- a code whose place has a record
-pub record RecordCode (s : Sides) (c : ℕ) : Type 0 where
-  pub below : rowPlace c < recordCount (s .left) + recordCount (s .right)
-
 -- the right places that the left series of a code meets
 abbrev pub codedPlaces : Sides → ℕ → List ℕ
 codedPlaces s c = codedMet (s .right .keys) (rightFirst c) (rightLast c)
-
--- 01: Set rules pay no heed to the join or the flags and edit no labels. Those of its place
-abbrev pub codedSetLabels : Sides → ℕ → Labels
-codedSetLabels s c = setLabels s (rowPlace c)
 
 -- the row of a left series by the right ones that it meets; a right series has its own
 abbrev pub codedSetRow : SetRule → Sides → ℕ → List ℕ
@@ -60,9 +45,3 @@ listedPlaces s c =
 pub record SetRowPut (rule : SetRule) (s : Sides) (c : ℕ) (before after out : List ℕ) : Type 0 where
   pub row : out ≡ codedSetRow rule s c
   pub listed : after ≡ sets before 0 (listedPlaces s c)
-
--- the record of the row x
-pub record RowRecord (s : Sides) (x : ℕ) (rec : List ℕ) : Type 0 where
-  pub bytes : rec ≡ encode (setLabels s x)
-  pub labels : labelsOf rec ≡ setLabels s x
-  pub short : length rec ≤ maxLabelBytes

@@ -1,13 +1,10 @@
-// The answer series of a code of a set rule: its record measured and written, its row written.
+// The row of a code of a set rule, and whether a rule leaves a reading in a row.
 mod binaryop; // a rule on two readings
 mod set_rows; // a rule on two rows, one loop each
 mod set_points; // a rule at one point
 mod left_rows; // the row of a left series that meets several right ones, one, or none
-mod records; // the label record of a code
 
 use operator::Operator;
-pub use records::put_set_record;
-pub use records::set_record_size;
 pub use set_points::SetRule;
 pub use set_points::leaves;
 ghost use mathlib.Core.Path.{_≡_};
@@ -39,15 +36,15 @@ pub fn put_set_row(
     let left_keys = keys[0];
     let n = left_keys.len();
     let p = out.len();
-    let x = key_ends::left_last(code);
+    let x = end_codes::left_last(code);
     if x < n {
         left_rows::put_left_row(
             set_points::set_rule(op),
             side_parts::row(rows[0], p, x),
             keys[1],
             rows[1],
-            key_ends::right_first(code),
-            key_ends::right_last(code),
+            end_codes::right_first(code),
+            end_codes::right_last(code),
             places,
             out,
         );

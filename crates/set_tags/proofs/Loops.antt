@@ -1,5 +1,5 @@
 -- The loops over an edited record's tags: measuring and writing, turn by turn. Assumes nothing.
-use Prim.Native.Nat.{ℕ, _+_, _*_, _-_, _≤_, _<_}
+use Prim.Native.Nat.{ℕ, _+_, _*_, _-_, _≤_}
 use mathlib.Core.Path.{_≡_, refl, sym, ap, _∙_}
 use mathlib.Core.Bool.{Bool, cond}
 use mathlib.Core.List.{List, [], _++_}
@@ -20,7 +20,7 @@ use Rattle.set_tags.specs.declared.edited_tags.Walk.{Walk}
 use Rattle.set_tags.specs.declared.edited_tags.Edited.{Edited}
 use Rattle.set_tags.specs.declared.edited_tags.Edited.the-variants as E
 use Rattle.set_tags.proofs.edited_tags.Found.{edit-ended, edit-first, edit-fewer}
-use Rattle.set_tags.specs.Records.{ShortRecords}
+use Rattle.set_tags.specs.Records.{ShortRecords, TagsPut}
 use Rattle.set_tags.proofs.Sizes.{edited-short}
 
 -- measuring
@@ -81,8 +81,11 @@ module _ (join skip : Names) (many source : List ℕ) (w : Walk) (tags bytes : �
 
 -- writing
 
-pub record PutLeft (join skip : Names) (many source : List ℕ) (w : Walk) (d₀ : List ℕ) (at : ℕ) (all d : List ℕ) (o : ℕ) : Type 0 where
-  pub rest : Rest d₀ at all d o (encodeTags (tagsLeft join skip many source w))
+pub record PutLeft (join skip : Names) (many source : List ℕ) (w : Walk) (tags : ℕ) (d₀ : List ℕ) (at : ℕ)
+    (all : List Tag) (d : List ℕ) (o : ℕ) : Type 0 where
+  pub count : tags + length (tagsLeft join skip many source w) ≡ length all
+  pub few : tags + (w .left + w .more) ≤ 510
+  pub rest : Rest d₀ at (encodeTags all) d o (encodeTags (tagsLeft join skip many source w))
 
 no-tags : encodeTags [] ≡ []
 unfolding encodeTags
@@ -90,25 +93,43 @@ no-tags = refl
 
 pub put-start : (join skip : Names) (many source : List ℕ) (w : Walk) (d : List ℕ) (at : ℕ) → WalkOf many source w
     → at + length (encodeTags (editedTags join skip many source)) ≤ length d
-    → PutLeft join skip many source w d at (encodeTags (editedTags join skip many source)) d at
+    → PutLeft join skip many source w 0 d at (editedTags join skip many source) d at
 put-start join skip many source w d at hw room =
-    record { rest = rw (hw .tags join skip) (rest-start d at (encodeTags (editedTags join skip many source)) room) }
+    record {
+      count = rw (hw .tags join skip) (omega arith);
+      few = omega (arith, hw .few);
+      rest = rw (hw .tags join skip) (rest-start d at (encodeTags (editedTags join skip many source)) room);
+    }
 
-module _ (join skip : Names) (many source : List ℕ) (w : Walk) (d₀ : List ℕ) (at : ℕ) (all d : List ℕ) (o : ℕ)
-    (inv : PutLeft join skip many source w d₀ at all d o) (x : Edited)
+module _ (join skip : Names) (many source : List ℕ) (w : Walk) (tags : ℕ) (d₀ : List ℕ) (at : ℕ) (all : List Tag)
+    (d : List ℕ) (o : ℕ) (inv : PutLeft join skip many source w tags d₀ at all d o) (x : Edited)
     (hx : EditedAt join skip many source w x) where
-  pub put-ended : x ≡ E.End → Put d₀ at all d o
-  put-ended ex = rest-done d₀ at all d o (rw (edit-ended join skip many source w x hx ex, no-tags) at (inv .rest))
+  pub put-ended : x ≡ E.End → TagsPut all d₀ at d (record { tags = tags; end = o })
+  put-ended ex =
+      let none = edit-ended join skip many source w x hx ex in
+      let count : tags + 0 ≡ length all = rw none at (inv .count) in
+      record { put = rest-done d₀ at (encodeTags all) d o (rw (none, no-tags) at (inv .rest)); count = omega arith }
 
-  module _ (t : Bool) (start end : ℕ) (rest : Walk) (ex : x ≡ E.Tag t start end rest) (c : List ℕ)
-      (hc : c ≡ take (end - start) (drop start (cond t source many))) where
-    left : Rest d₀ at all d o (c ++ encodeTags (tagsLeft join skip many source rest))
-    left =
-        let f = edit-first join skip many source w x hx t start end rest ex in
-        rw (hc, f .bytes) (rw (f .first, encode-tag) at (inv .rest))
+  module _ (t : Bool) (start end : ℕ) (rest : Walk) (ex : x ≡ E.Tag t start end rest) where
+    pub put-fits : Fits w64 (tags + 1)
+    put-fits = omega (arith, inv .few, edit-fewer join skip many source w x hx t start end rest ex)
 
-    pub one-room : o + length c ≤ length d
-    one-room = rest-room d₀ at all d o c (encodeTags (tagsLeft join skip many source rest)) left
+    module _ (c : List ℕ) (hc : c ≡ take (end - start) (drop start (cond t source many))) where
+      left : Rest d₀ at (encodeTags all) d o (c ++ encodeTags (tagsLeft join skip many source rest))
+      left =
+          let f = edit-first join skip many source w x hx t start end rest ex in
+          rw (hc, f .bytes) (rw (f .first, encode-tag) at (inv .rest))
 
-    pub put-one-tag : (d′ : List ℕ) (r : ℕ) → Put d o c d′ r → PutLeft join skip many source rest d₀ at all d′ r
-    put-one-tag d′ r hp = record { rest = rest-put d₀ at all d o c (encodeTags (tagsLeft join skip many source rest)) d′ r left hp }
+      pub one-room : o + length c ≤ length d
+      one-room = rest-room d₀ at (encodeTags all) d o c (encodeTags (tagsLeft join skip many source rest)) left
+
+      pub put-one-tag : (d′ : List ℕ) (r : ℕ) → Put d o c d′ r
+          → PutLeft join skip many source rest (tags + 1) d₀ at all d′ r
+      put-one-tag d′ r hp =
+          let f = edit-first join skip many source w x hx t start end rest ex in
+          record {
+            count = omega (arith, inv .count, ap length (f .first));
+            few = omega (arith, inv .few, edit-fewer join skip many source w x hx t start end rest ex);
+            rest = rest-put d₀ at (encodeTags all) d o c (encodeTags (tagsLeft join skip many source rest)) d′ r left
+                hp;
+          }

@@ -1,12 +1,11 @@
 -- An edited record is no longer than the two that it is made of, and its parts can be counted. Assumes nothing.
-use Prim.Native.Nat.{ℕ, _+_, _*_, _≤_, _<_}
-use mathlib.Core.Path.{_≡_, refl, ap, _∙_}
-use mathlib.Core.List.{List, [], _∷_, _++_}
+use Prim.Native.Nat.{ℕ, _+_, _≤_}
+use mathlib.Core.Path.{_≡_, ap, _∙_}
+use mathlib.Core.List.{List, [], _∷_}
 use native.Mathlib.Omega.{arith}
-use mir.Syntax.{w8, w64}
+use mir.Syntax.{w64}
 use mir.Val.{Fits}
 use lib.ListN.{length}
-use Rattle.model.specs.Limits.{maxTags}
 use Rattle.model.specs.Lists.{cases}
 use Rattle.model.specs.Labels.{Tag, below}
 use Rattle.model.specs.Record.{encodeField, encodeTags}
@@ -70,7 +69,3 @@ module _ (naming : Naming) (many source : List ℕ) (short : ShortRecords many s
       → k ≡ length (encodeTags (editedTags join skip many source))
       → Sized (edited join skip naming many source) (record { tags = t; bytes = n + 1 + k })
   record-sized join skip t k ht hk = record { tags = ht; bytes = omega (arith, length-labels (edited join skip naming many source)) }
-
--- `set_tags`: a count of at most 32 is a byte
-pub few-fits : (ts : List Tag) (t : ℕ) → length ts ≤ maxTags → t ≡ length ts → Fits w8 t
-few-fits ts t few ht = omega arith

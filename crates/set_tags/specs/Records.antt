@@ -1,15 +1,18 @@
--- A join's edited record: its labels, and that they are what `set_tags` gives. Assumes nothing.
+-- A join's edited record: its labels, and that they are what `set_tags` gives; its tags written. Assumes nothing.
 use Prim.Native.Nat.{ℕ, _≤_}
 use mathlib.Core.Path.{_≡_, refl, sym, ap, _∙_}
 use mathlib.Core.Bool.{Bool, true, false, not, _&&_, cond}
 use mathlib.Core.List.{List}
 use lib.ListN.{length}
 use Rattle.model.specs.Limits.{maxLabelBytes}
-use Rattle.model.specs.Labels.{Labels, nameLabel, WellFormed}
+use Rattle.model.specs.Labels.{Tag, Labels, nameLabel, WellFormed}
+use Rattle.model.specs.Record.{encodeTags}
 use Rattle.model.specs.Edits.{Names, isListed, clearNameIf, setTags}
 use Rattle.model.specs.Laws.Edits.{clear-well}
 use Rattle.model.specs.Laws.SetTags.{stayingTags, setFrom, mergeTags, set-tags-merge, set-tags-name}
 use Rattle.record_tags.specs.Lenient.{labelsOf}
+use Rattle.writing.specs.Written.{Put}
+use Rattle.set_tags.specs.declared.PutTags.{PutTags}
 use Rattle.set_tags.specs.declared.naming.Naming.{Naming}
 use Rattle.set_tags.specs.declared.naming.Naming.the-variants.{Nobody, Many, Source}
 use Rattle.set_tags.specs.naming.Namings.{namingOf, nameOf}
@@ -19,6 +22,11 @@ use Rattle.set_tags.specs.edited_tags.Streams.{editedTags}
 pub record ShortRecords (many source : List ℕ) : Type 0 where
   pub manyShort : length many ≤ maxLabelBytes
   pub sourceShort : length source ≤ maxLabelBytes
+
+-- d′ is d with tags written at a place; r says how many they are, and the place behind them
+pub record TagsPut (tags : List Tag) (d : List ℕ) (at : ℕ) (d′ : List ℕ) (r : PutTags) : Type 0 where
+  pub put : Put d at (encodeTags tags) d′ (r .end)
+  pub count : r .tags ≡ length tags
 
 -- the edited labels, read off the two records; named as `naming` says, whatever the lists
 abbrev pub edited : Names → Names → Naming → List ℕ → List ℕ → Labels

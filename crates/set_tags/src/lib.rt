@@ -19,7 +19,7 @@ ghost use Rattle.labels.specs.Names.{namesOf};
 ghost use Rattle.writing.specs.Written.{Put};
 ghost use Rattle.kept_labels.specs.Edited.{TagsSized, Sized};
 ghost use Rattle.set_tags.specs.edited_tags.Streams.{editedTags};
-ghost use Rattle.set_tags.specs.Records.{ShortRecords, edited};
+ghost use Rattle.set_tags.specs.Records.{ShortRecords, TagsPut, edited};
 
 // How many tags the edited record has, and their bytes.
 fn edited_size(many: &[u8], source: &[u8], join: &[u8], skip: &[u8]) -> Size
@@ -48,7 +48,13 @@ fn edited_size(many: &[u8], source: &[u8], join: &[u8], skip: &[u8]) -> Size
     }
 }
 
-// Writes the edited tags, and gives the place behind them.
+// What writing the edited tags gives: how many they are, and the place behind them.
+struct PutTags {
+    tags: usize,
+    end: usize,
+}
+
+// Writes the edited tags.
 fn put_edited<'a>(
     out: &mut [u8],
     at: usize,
@@ -56,13 +62,16 @@ fn put_edited<'a>(
     source: &'a [u8],
     join: &[u8],
     skip: &[u8],
-) -> usize
+) -> PutTags
     requires { ⌜ at + length (encodeTags (editedTags (namesOf (now join)) (namesOf (now skip)) (now many) (now source))) ≤ length (now out) ⌝ }
-    ensures { λ r. ⌜ Put (now (out .entry)) at
-        (encodeTags (editedTags (namesOf (now (join .entry))) (namesOf (now (skip .entry))) (now (many .entry)) (now (source .entry))))
-        (now (out .exit)) r ⌝ }
+    ensures { λ r. ⌜
+        TagsPut
+        (editedTags (namesOf (now (join .entry))) (namesOf (now (skip .entry))) (now (many .entry)) (now (source .entry)))
+        (now (out .entry)) at (now (out .exit)) r
+        ⌝ }
 {
     let mut w = edited_tags::walk_of(many, source);
+    let mut tags: usize = 0;
     let mut o = at;
     loop {
         let Edited::Tag {
@@ -72,8 +81,9 @@ fn put_edited<'a>(
             rest,
         } = edited_tags::next_edited(many, source, w, join, skip)
         else {
-            return o;
+            return PutTags { tags, end: o };
         };
+        tags += 1;
         o = writing::put_bytes(
             out,
             o,
@@ -96,7 +106,8 @@ pub fn set_tags_size(many: &[u8], source: &[u8], join: &[u8], skip: &[u8], namin
     }
 }
 
-// Writes the edited record at its place, and gives the place behind it.
+// Writes the edited record at its place, and gives the place behind it. Its tags are counted as they are written, and
+// their count is put before them at last.
 pub fn set_tags<'a>(
     out: &mut [u8],
     at: usize,
@@ -106,16 +117,15 @@ pub fn set_tags<'a>(
     skip: &[u8],
     naming: Naming,
 ) -> usize
-    requires short { ⌜ ShortRecords (now many) (now source) ⌝ }
     requires few { ⌜ length (editedTags (namesOf (now join)) (namesOf (now skip)) (now many) (now source)) ≤ maxTags ⌝ }
     requires room { ⌜ at + length (encode (edited (namesOf (now join)) (namesOf (now skip)) naming (now many) (now source))) ≤ length (now out) ⌝ }
     ensures { λ r. ⌜ Put (now (out .entry)) at
         (encode (edited (namesOf (now (join .entry))) (namesOf (now (skip .entry))) naming (now (many .entry)) (now (source .entry))))
         (now (out .exit)) r ⌝ }
 {
-    let s = edited_size(many, source, join, skip);
-    let n = s.tags;
     let q = naming::put_naming(out, at, many, source, naming);
-    let o = writing::put_byte(out, q, n as u8);
-    put_edited(out, o, many, source, join, skip)
+    let t = put_edited(out, q + 1, many, source, join, skip);
+    let n = t.tags;
+    writing::put_byte(out, q, n as u8);
+    t.end
 }

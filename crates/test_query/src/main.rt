@@ -39,7 +39,7 @@ fn print_query(q: Query) {
     print_join(join);
     print_flag(q.keep_names);
     print_flag(q.as_bool);
-    print_flag(query::should_reset_metric_group(q));
+    print_flag(query_rules::should_reset_metric_group(q));
     print_number(q.join_at);
     print(b"\n");
 }

@@ -16,17 +16,18 @@ use Rattle.writing.specs.Written.{Put}
 use Rattle.kept_labels.specs.declared.Size.{Size}
 use Rattle.side_parts.specs.Lent.{Sides, RecordsHeld, BothFormed, BothRowsHeld}
 use Rattle.answers.specs.Tallies.{SizedRecord}
-use Rattle.pair_series.specs.adjusted_labels.Edits.{pairQuery}
-use Rattle.pair_series.specs.pair_records.Records as Pair
-use Rattle.pair_series.specs.pair_records.Records.{codedPairLabels}
+use Rattle.pair_records.specs.adjusted_labels.Edits.{pairQuery}
+use Rattle.pair_records.specs.Records as Pair
+use Rattle.pair_records.specs.Records.{codedPairLabels}
 use Rattle.pair_series.specs.pair_rows.Rows.{codedPairRow, PairCode, leftWork, rightWork}
 use Rattle.pair_series.proofs.Widths.{left-work-long, right-work-long}
 use Rattle.join_series.specs.declared.Work.{Work}
-use Rattle.join_series.specs.join_records.Records.{codedJoinLabels, JoinRecord, LabelRoom}
+use Rattle.join_records.specs.Records.{codedJoinLabels, JoinRecord, LabelRoom}
 use Rattle.join_series.specs.join_rows.Rows.{codedJoinRow, JoinCode, workAfter}
 use Rattle.join_series.proofs.Widths.{work-after-long}
-use Rattle.set_series.specs.Series as Set
-use Rattle.set_series.specs.Series.{codedSetLabels, codedSetRow, SetCode, listedPlaces, SetRowPut}
+use Rattle.set_records.specs.Records as Set
+use Rattle.set_records.specs.Records.{codedSetLabels}
+use Rattle.set_series.specs.Series.{codedSetRow, SetCode, listedPlaces, SetRowPut}
 use Rattle.answering.specs.declared.families.Rule.{Rule}
 use Rattle.answering.specs.declared.families.Rule.the-variants as R
 use Rattle.answering.specs.families.Codes.{ruleLabels, ruleRow, RecordIn, CodeIn, WorkRoom, WorkKept}

@@ -18,7 +18,7 @@ use Rattle.plan.specs.Joins.{JoinWork, joinSeries}
 use Rattle.plan.specs.Sets.{ruleBy, workFor, setRows, setSeries}
 use Rattle.labels.specs.Names.{namesOf}
 use Rattle.query.specs.declared.Query.{Query}
-use Rattle.query.specs.allowance.Allowances.{allowedBy}
+use Rattle.query_rules.specs.Allowances.{allowedBy}
 use Rattle.side_parts.specs.Lent.{Sides, rowSides, BothHeld}
 use Rattle.index_lists.specs.Places.{NotedAll}
 use Rattle.answers.specs.declared.Planned.{Planned}
@@ -26,7 +26,7 @@ use Rattle.answers.specs.declared.Planned.the-variants as P
 use Rattle.answers.specs.Plans.{PlannedAs, upFrom, upTo}
 use Rattle.answers.proofs.Numbering.{coded-series}
 use Rattle.answers.proofs.Planning.{plan-rows, planned-clear, planned-count, planned-codes}
-use Rattle.pair_series.specs.adjusted_labels.Edits.{pairQuery}
+use Rattle.pair_records.specs.adjusted_labels.Edits.{pairQuery}
 use Rattle.pair_series.specs.Answers.{codedPairSeries}
 use Rattle.pair_plan.specs.pairs.Pairing.{pairCodes}
 use Rattle.pair_plan.proofs.Coding as Pairs

@@ -9,16 +9,17 @@ use Rattle.model.specs.Labels.{Labels}
 use Rattle.model.specs.Vector.{Series}
 use Rattle.labels.specs.Names.{namesOf}
 use Rattle.side_parts.specs.Lent.{Sides}
-use Rattle.pair_series.specs.adjusted_labels.Edits.{pairQuery}
-use Rattle.pair_series.specs.pair_records.Records as Pair
-use Rattle.pair_series.specs.pair_records.Records.{codedPairLabels}
+use Rattle.pair_records.specs.adjusted_labels.Edits.{pairQuery}
+use Rattle.pair_records.specs.Records as Pair
+use Rattle.pair_records.specs.Records.{codedPairLabels}
 use Rattle.pair_series.specs.pair_rows.Rows.{codedPairRow, PairCode}
-use Rattle.join_series.specs.join_records.Records.{codedJoinLabels, JoinRecord}
+use Rattle.join_records.specs.Records.{codedJoinLabels, JoinRecord}
 use Rattle.join_series.specs.join_rows.Rows.{codedJoinRow, JoinCode}
 use Rattle.join_series.specs.Series.{marksOf}
 use Rattle.plan.specs.Sets.{ruleBy}
-use Rattle.set_series.specs.Series as Set
-use Rattle.set_series.specs.Series.{codedSetLabels, codedSetRow, SetCode}
+use Rattle.set_records.specs.Records as Set
+use Rattle.set_records.specs.Records.{codedSetLabels}
+use Rattle.set_series.specs.Series.{codedSetRow, SetCode}
 use Rattle.answering.specs.declared.families.Rule.{Rule}
 use Rattle.answering.specs.declared.families.Rule.the-variants.{Pairs, Join, Set}
 

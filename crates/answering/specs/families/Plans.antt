@@ -19,7 +19,7 @@ use Rattle.side_parts.specs.Lent.{Sides}
 use Rattle.answers.specs.declared.Planned.{Planned}
 use Rattle.answers.specs.declared.Planned.the-variants.{Rows}
 use Rattle.answers.specs.Plans.{PlannedAs, upTo}
-use Rattle.pair_series.specs.adjusted_labels.Edits.{pairQuery}
+use Rattle.pair_records.specs.adjusted_labels.Edits.{pairQuery}
 use Rattle.pair_plan.specs.pairs.Pairing.{pairCodes}
 use Rattle.join_series.specs.declared.Work.{Work}
 use Rattle.join_series.specs.Works.{codedWork, manySide}

@@ -25,7 +25,7 @@ use Rattle.labels.specs.Names.{namesOf}
 use Rattle.query.specs.declared.Join.the-variants as J
 use Rattle.query.specs.declared.Query.{Query}
 use Rattle.query.specs.Queries.{queryOf, joinOf, matchingPart, joinPart}
-use Rattle.query.specs.allowance.Allowances.{allowedBy}
+use Rattle.query_rules.specs.Allowances.{allowedBy}
 use Rattle.set_tags.specs.declared.naming.Naming.{Naming}
 use Rattle.set_tags.specs.naming.Namings.{namingOf}
 use Rattle.side_parts.specs.Lent.{Sides, exchanged, sideSeries, BothHeld}
@@ -34,7 +34,7 @@ use Rattle.answers.specs.Outcomes.{Ran}
 use Rattle.join_series.specs.declared.Work.{Work}
 use Rattle.join_series.specs.Works.{manySide, codedWork}
 use Rattle.join_series.specs.Queries.{WorkOf, joined-outcome}
-use Rattle.pair_series.specs.adjusted_labels.Edits.{pairQuery}
+use Rattle.pair_records.specs.adjusted_labels.Edits.{pairQuery}
 use Rattle.keyed_sides.specs.Keyed.{dropsMissing, SidesKeyed}
 use Rattle.binop_vector_vector.specs.dispatch.Runs.{Asked, ranSides}
 use Rattle.binop_vector_vector.specs.dispatch.Grouped.{askedWork, joinedOver}

@@ -8,7 +8,7 @@ use Rattle.semantics.specs.Call.{Outcome}
 use Rattle.plan.specs.Joins as Joins
 use Rattle.plan.specs.Joins.{joinOutcome}
 use Rattle.query.specs.declared.Query.{Query}
-use Rattle.query.specs.allowance.Allowances.{allowedBy}
+use Rattle.query_rules.specs.Allowances.{allowedBy}
 use Rattle.set_tags.specs.naming.Namings.{namingOf}
 use Rattle.side_parts.specs.Lent.{Sides}
 use Rattle.join_series.specs.declared.Work.{Work}

@@ -440,10 +440,11 @@ module _ (m n first : ℕ) (leads lasts list₀ marks₀ : List ℕ) where
                   ∙ getD-set-same list r (rowCode m o) 0 (omega (arith, l, same-long)) in
                   let one : onePlace (getD list′ r 0) ≡ o = omega (arith, code, h, s .fit .few) in
                   rw one (row-marks all leads o (getD lasts o 0) (r * 8) marks marks′ put (last-here .within)
-                  (none-behind all first leads led o (getD lasts o 0) (s .after) last-here) (led .few)
+                  (none-behind all first leads led o (getD lasts o 0) (s .after) last-here)
+                  (omega (arith, last-here .within, led .part))
+                  (λ i a b. led .same i (omega (arith, a, s .after)) (omega (arith, b, last-here .within)))
                   (λ i a. s .frame .above i a ∙ clean i (omega (arith, a, s .from)))
-                  (omega (arith, room, s .frame .long))
-                  (λ i a b. led .same i (omega (arith, a, s .after)) (omega (arith, b, last-here .within))))
+                  (omega (arith, room, s .frame .long)))
 
               old-row : (k : ℕ) → n ≤ k → k < r → k < length list′ → k * 8 + 8 ≤ length marks₀
                   → MarksAt all (onePlace (getD list′ k 0)) (k * 8) marks′
@@ -451,7 +452,7 @@ module _ (m n first : ℕ) (leads lasts list₀ marks₀ : List ℕ) where
                   let same : getD list′ k 0 ≡ getD list k 0 = ap (λ (y : List ℕ). getD y k 0) (row .content)
                   ∙ getD-set-other list r k (rowCode m o) 0 (λ z. omega (arith, z, b)) in
                   rw same (record {
-                    each = λ j u. (let low : j / 64 < 8 = omega (arith, u, led .few) in
+                    each = λ j u. (let low : j / 64 < 8 = omega (arith, u) in
                         rw (put .frame .below (k * 8 + j / 64) (omega (arith, low, b)))
                         (s .marked all led clean k a b (omega (arith, l, same-long)) room .each j u));
                   })

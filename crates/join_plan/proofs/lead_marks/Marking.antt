@@ -1,5 +1,5 @@
 -- `find_lead`, `mark_leads`, `note_lasts`: leaders marked place by place, and their last places. Assumes nothing.
-use Prim.Native.Nat.{ℕ, zero, suc, _+_, _≤_, _<_}
+use Prim.Native.Nat.{ℕ, zero, suc, _+_, _-_, _≤_, _<_}
 use mathlib.Core.Path.{_≡_, refl, sym, ap, _∙_}
 use mathlib.Core.Bool.{Bool, true, false, cond, _&&_}
 use mathlib.Core.List.{List}
@@ -8,7 +8,7 @@ use native.Mathlib.Omega.{arith}
 use mir.Syntax.{w64}
 use mir.Val.{Fits}
 use lib.Dec.{eqb}
-use lib.ListN.{length, getD, drop, set, length-set}
+use lib.ListN.{length, getD, drop, set, replicate, length-set}
 use lib.Seq.{getD-set-same, getD-set-other}
 use borrow.Author.Tests.{eqb-true, eqb-false, eq-eqb, ne-eqb}
 use Rattle.model.specs.Lists.{cases}
@@ -26,10 +26,12 @@ use Rattle.set_tags.specs.edited_tags.Streams.{editedTags}
 use Rattle.side_parts.specs.Sides.{recordAt, labelsIn, Positions}
 use Rattle.side_parts.specs.Lent.{RecordsHeld}
 use Rattle.side_parts.specs.SideLaws.{labels-at, labels-count}
-use Rattle.join_series.specs.Works.{tagsBy}
-use Rattle.join_plan.specs.lead_marks.Marks.{leadsIn, Marking, LeadFound, editedHash, LeadsPut}
-use Rattle.join_plan.specs.lead_marks.Marks.{LastAt, LastsNoted}
+use Rattle.join_records.specs.Edits.{tagsBy}
+use Rattle.join_plan.specs.lead_marks.Marks.{leadsIn, Marking, NoneHashed, LeadFound, editedHash}
+use Rattle.join_plan.specs.lead_marks.Marks.{buckets, BucketNoted, LeadsPut, LastAt, LastsNoted}
 use Rattle.join_plan.proofs.lead_marks.Leaders.{lead-step, leads-among-at}
+use Rattle.join_plan.proofs.lead_marks.Buckets.{from-next, Bucketed, buckets-start, buckets-past}
+use Rattle.join_plan.proofs.lead_marks.Buckets.{none-hashed, buckets-turn}
 
 -- a side's labels, by their places
 module _ (array at keys : List ℕ) (count : length at ≡ length keys + 1) where
@@ -99,11 +101,12 @@ module _ (join skip : Names) (many : List ℕ) (k : ℕ) (array at keys leads ha
         (λ g. rw (e, g)))
         (λ e. rw e)
 
-    other-hash : (x : ℕ) → x ≡ editedHash join skip many array at o → (getD hashes i 0 ≡ x → ⊥) → test i ≡ false
+    other-hash : (x : ℕ) → x ≡ editedHash join skip many array at o → (getD keys i 0 ≡ k → getD hashes i 0 ≡ x → ⊥)
+        → test i ≡ false
     other-hash x hx f =
         cases (eqb (getD keys i 0) k)
         (λ e. cases (sameEditedBy edit m (getD ls i noLabels) c)
-        (λ g. absurd (f (s .hashed i a h (eqb-true (getD keys i 0) k e)
+        (λ g. absurd (f (eqb-true (getD keys i 0) k e) (s .hashed i a h (eqb-true (getD keys i 0) k e)
         ∙ same-hash (editedTags join skip many (recordAt array at i)) (editedTags join skip many (recordAt array at o))
         (sym (alike-here i within) ∙ g) ∙ sym hx)))
         (λ g. rw (e, g)))
@@ -129,45 +132,66 @@ module _ (join skip : Names) (many : List ℕ) (k : ℕ) (array at keys leads ha
   lead-itself e = step o inside
       ∙ rw (eq-eqb (getD keys o 0) k e, labels-here array at keys (s .count) o inside, alike-refl edit m c)
 
+  -- no place before `start` leads, where none there has the hash
+  module _ (start : ℕ) (none : NoneHashed k keys hashes first start (editedHash join skip many array at o))
+      (low : start ≤ o) where
+    past-hashed : (n : ℕ) → first + n ≤ start → from 0 ≡ from (first + n)
+    past-hashed zero g = past-first (omega (arith, none .order)) (first + 0) (omega arith)
+    past-hashed (suc n) g =
+        past-hashed n (omega arith)
+        ∙ step-no (first + n) (omega arith) (omega arith)
+        (other-hash (first + n) (omega arith) (omega arith) (editedHash join skip many array at o) refl
+        (none .each (first + n) (omega arith) (omega arith)))
+        ∙ ap from (omega arith)
+
+    past-start : from 0 ≡ from start
+    past-start =
+        let e : first + (start - first) ≡ start = omega (arith, none .order) in
+        past-hashed (start - first) (omega (arith, e)) ∙ ap from e
+
 -- `find_lead`: no place before n leads the place o
-pub record Finding (join skip : Names) (many array at leads hashes : List ℕ) (first o n : ℕ) : Type 0 where
-  pub after : first ≤ n
+pub record Finding (join skip : Names) (many array at leads hashes : List ℕ) (start o n : ℕ) : Type 0 where
+  pub after : start ≤ n
   pub within : n ≤ o
-  pub rest : (k : ℕ) (keys : List ℕ) (s : Marking join skip many k array at keys leads hashes first o)
-      (inside : o < length keys)
+  pub rest : (k : ℕ) (keys : List ℕ) (first : ℕ) (s : Marking join skip many k array at keys leads hashes first o)
+      (none : NoneHashed k keys hashes first start (editedHash join skip many array at o)) (inside : o < length keys)
       → from join skip many k array at keys leads hashes first o s inside 0
       ≡ from join skip many k array at keys leads hashes first o s inside n
 
-module _ (join skip : Names) (many array at leads hashes : List ℕ) (first o : ℕ) where
-  pub find-starts : first ≤ o → Finding join skip many array at leads hashes first o first
+module _ (join skip : Names) (many array at leads hashes : List ℕ) (start o : ℕ) where
+  pub find-starts : start ≤ o → Finding join skip many array at leads hashes start o start
   find-starts h = record {
     after = omega arith;
     within = h;
-    rest = λ k keys s inside. past-first join skip many k array at keys leads hashes first o s inside h first
-        (omega arith);
+    rest = λ k keys first s none inside.
+        past-start join skip many k array at keys leads hashes first o s inside start none h;
   }
 
-  module _ (n : ℕ) (f : Finding join skip many array at leads hashes first o n) where
+  module _ (n : ℕ) (f : Finding join skip many array at leads hashes start o n) where
     module _ (h : n < o) where
-      find-next : ((k : ℕ) (keys : List ℕ) (s : Marking join skip many k array at keys leads hashes first o)
+      find-next : ((k : ℕ) (keys : List ℕ) (first : ℕ)
+          (s : Marking join skip many k array at keys leads hashes first o)
+          (none : NoneHashed k keys hashes first start (editedHash join skip many array at o))
           (inside : o < length keys) → test join skip many k array at keys leads hashes first o s inside n ≡ false)
-          → Finding join skip many array at leads hashes first o (n + 1)
+          → Finding join skip many array at leads hashes start o (n + 1)
       find-next t = record {
         after = omega (arith, f .after);
         within = omega arith;
-        rest = λ k keys s inside. f .rest k keys s inside
-            ∙ step-no join skip many k array at keys leads hashes first o s inside n (f .after) h (t k keys s inside);
+        rest = λ k keys first s none inside. f .rest k keys first s none inside
+            ∙ step-no join skip many k array at keys leads hashes first o s inside n
+            (omega (arith, f .after, none .order)) h (t k keys first s none inside);
       }
 
-      pub find-past : (getD leads n 0 ≡ n → ⊥) → Finding join skip many array at leads hashes first o (n + 1)
-      find-past g = find-next (λ k keys s inside.
-          not-leader join skip many k array at keys leads hashes first o s inside n (f .after) h
-          (f .rest k keys s inside) g)
+      pub find-past : (getD leads n 0 ≡ n → ⊥) → Finding join skip many array at leads hashes start o (n + 1)
+      find-past g = find-next (λ k keys first s none inside.
+          not-leader join skip many k array at keys leads hashes first o s inside n
+          (omega (arith, f .after, none .order)) h (f .rest k keys first s none inside) g)
 
       pub find-other-hash : (x : ℕ) → x ≡ editedHash join skip many array at o → (getD hashes n 0 ≡ x → ⊥)
-          → Finding join skip many array at leads hashes first o (n + 1)
-      find-other-hash x hx g = find-next (λ k keys s inside.
-          other-hash join skip many k array at keys leads hashes first o s inside n (f .after) h x hx g)
+          → Finding join skip many array at leads hashes start o (n + 1)
+      find-other-hash x hx g = find-next (λ k keys first s none inside.
+          other-hash join skip many k array at keys leads hashes first o s inside n
+          (omega (arith, f .after, none .order)) h x hx (λ e. g))
 
       module _ (x y : List ℕ) (hx : x ≡ recordAt array at n) (hy : y ≡ recordAt array at o) (r : Bool)
           (told : r ≡ sameTags (editedTags join skip many x) (editedTags join skip many y)) where
@@ -175,29 +199,31 @@ module _ (join skip : Names) (many array at leads hashes : List ℕ) (first o : 
             (editedTags join skip many (recordAt array at o))
         told-here = told ∙ rw (hx, hy)
 
-        pub find-unlike : r ≡ false → Finding join skip many array at leads hashes first o (n + 1)
-        find-unlike g = find-next (λ k keys s inside.
-            not-alike join skip many k array at keys leads hashes first o s inside n (f .after) h (sym told-here ∙ g))
+        pub find-unlike : r ≡ false → Finding join skip many array at leads hashes start o (n + 1)
+        find-unlike g = find-next (λ k keys first s none inside.
+            not-alike join skip many k array at keys leads hashes first o s inside n
+            (omega (arith, f .after, none .order)) h (sym told-here ∙ g))
 
-        pub find-here : getD leads n 0 ≡ n → r ≡ true → LeadFound join skip many array at leads hashes first o n
+        pub find-here : getD leads n 0 ≡ n → r ≡ true → LeadFound join skip many array at leads hashes start o n
         find-here g t = record {
-          each = λ k keys s inside key.
-              sym (f .rest k keys s inside
-              ∙ step-yes join skip many k array at keys leads hashes first o s inside n (f .after) h
-              (is-lead join skip many k array at keys leads hashes first o s inside n (f .after) h g
-              (sym told-here ∙ t)));
+          each = λ k keys first s none inside key.
+              let a : first ≤ n = omega (arith, f .after, none .order) in
+              sym (f .rest k keys first s none inside
+              ∙ step-yes join skip many k array at keys leads hashes first o s inside n a h
+              (is-lead join skip many k array at keys leads hashes first o s inside n a h g (sym told-here ∙ t)));
         }
 
-    pub find-itself : o ≤ n → LeadFound join skip many array at leads hashes first o o
+    pub find-itself : o ≤ n → LeadFound join skip many array at leads hashes start o o
     find-itself h = record {
-      each = λ k keys s inside key.
+      each = λ k keys first s none inside key.
           let e : n ≡ o = omega (arith, h, f .within) in
-          sym (f .rest k keys s inside ∙ ap (from join skip many k array at keys leads hashes first o s inside) e
+          sym (f .rest k keys first s none inside
+          ∙ ap (from join skip many k array at keys leads hashes first o s inside) e
           ∙ lead-itself join skip many k array at keys leads hashes first o s inside key);
     }
 
 -- `mark_leads`: the places from first up to i are marked
-pub record Marks (join skip : Names) (many : List ℕ) (k : ℕ) (array at keys leads₀ hashes₀ leads hashes : List ℕ)
+pub record Marks (join skip : Names) (many : List ℕ) (k : ℕ) (array at keys leads₀ hashes₀ leads hashes table : List ℕ)
     (first last i : ℕ) : Type 0 where
   pub long : length leads ≡ length leads₀
   pub kept : length hashes ≡ length hashes₀
@@ -207,16 +233,7 @@ pub record Marks (join skip : Names) (many : List ℕ) (k : ℕ) (array at keys 
   pub after : first ≤ i
   pub within : i ≤ last + 1
   pub so : Marking join skip many k array at keys leads hashes first i
-
--- a fact about each place from first up to o + 1
-from-next : {P : ℕ → Type 0} (first o : ℕ) → ((i : ℕ) → first ≤ i → i < o → P i) → P o
-    → (i : ℕ) → first ≤ i → i < o + 1 → P i
-from-next {P} first o before here i a h =
-    cases (eqb i o) (λ e. rw (eqb-true i o e) here)
-    (λ e. before i a (let z : i ≡ o → ⊥ = eqb-false i o e in lt-of i o h z))
-  where
-    lt-of : (i o : ℕ) → i < o + 1 → (i ≡ o → ⊥) → i < o
-    lt-of i o h z = omega (arith, z)
+  pub found : Bucketed k keys hashes first i table
 
 module _ (join skip : Names) (many : List ℕ) (k : ℕ) (array at keys leads₀ hashes₀ : List ℕ) (first last : ℕ) where
   abbrev all : List ℕ
@@ -224,7 +241,7 @@ module _ (join skip : Names) (many : List ℕ) (k : ℕ) (array at keys leads₀
 
   pub marks-start : length at ≡ length keys + 1 → length keys ≤ maxSeries → KeyEnds keys k first last → first < last
       → last < length keys → length keys ≤ length leads₀ → length keys ≤ length hashes₀
-      → Marks join skip many k array at keys leads₀ hashes₀ leads₀ hashes₀ first last first
+      → Marks join skip many k array at keys leads₀ hashes₀ leads₀ hashes₀ (replicate buckets 65535) first last first
   marks-start count few ends order inside e f = record {
     long = refl;
     kept = refl;
@@ -243,10 +260,11 @@ module _ (join skip : Names) (many : List ℕ) (k : ℕ) (array at keys leads₀
       led = λ i a g. absurd (omega (arith, a, g));
       hashed = λ i a g. absurd (omega (arith, a, g));
     };
+    found = buckets-start k keys hashes₀ first 65535 (omega (arith, order, inside, few));
   }
 
-  module _ (leads hashes : List ℕ) (o : ℕ)
-      (s : Marks join skip many k array at keys leads₀ hashes₀ leads hashes first last o) (inner : o ≤ last) where
+  module _ (leads hashes table : List ℕ) (o : ℕ)
+      (s : Marks join skip many k array at keys leads₀ hashes₀ leads hashes table first last o) (inner : o ≤ last) where
     inside : o < length keys
     inside = omega (arith, s .inside)
 
@@ -269,31 +287,38 @@ module _ (join skip : Names) (many : List ℕ) (k : ℕ) (array at keys leads₀
           (omega (arith, inside, labels-long array at keys count))))
 
     pub marks-lead : (x : List ℕ) → x ≡ recordAt array at o → (h : ℕ) → h ≡ hashOf (editedTags join skip many x)
-        → (r : ℕ)
-        → LeadFound join skip many array at leads hashes first o r → getD keys o 0 ≡ k
-        → Marks join skip many k array at keys leads₀ hashes₀ (set leads o r) (set hashes o h) first last (o + 1)
-    marks-lead x hx h hh r f key = record {
-      long = simp length-set (s .long);
-      kept = simp length-set (s .kept);
-      led-room = s .led-room;
-      hash-room = s .hash-room;
-      inside = s .inside;
-      after = omega (arith, s .after);
-      within = omega (arith, inner);
-      so = record {
-        count = s .so .count;
-        few = s .so .few;
-        none = s .so .none;
-        led = led-next r (lead-is r (f .each k keys (s .so) inside key ∙ rw (eq-eqb (getD keys o 0) k key)));
-        hashed = from-next first o
-            (λ i a w e. getD-set-other hashes o i h 0 (λ z. omega (arith, w, z)) ∙ s .so .hashed i a w e)
-            (λ e. getD-set-same hashes o h 0 (omega (arith, inside, s .hash-room, s .kept)) ∙ hh
-            ∙ ap (λ (y : List ℕ). hashOf (editedTags join skip many y)) hx);
-      };
-    }
+        → (noted : List ℕ) (start : ℕ) → BucketNoted table h o noted start → (r : ℕ)
+        → LeadFound join skip many array at leads hashes start o r → getD keys o 0 ≡ k
+        → Marks join skip many k array at keys leads₀ hashes₀ (set leads o r) (set hashes o h) noted first last (o + 1)
+    marks-lead x hx h hh noted start b r f key =
+        let hash : h ≡ editedHash join skip many array at o =
+        hh ∙ ap (λ (y : List ℕ). hashOf (editedTags join skip many y)) hx in
+        let none : NoneHashed k keys hashes first start (editedHash join skip many array at o) =
+        rw hash at (none-hashed k keys hashes first o table (s .found) h noted start b (s .after)) in
+        record {
+          long = simp length-set (s .long);
+          kept = simp length-set (s .kept);
+          led-room = s .led-room;
+          hash-room = s .hash-room;
+          inside = s .inside;
+          after = omega (arith, s .after);
+          within = omega (arith, inner);
+          so = record {
+            count = s .so .count;
+            few = s .so .few;
+            none = s .so .none;
+            led = led-next r
+                (lead-is r (f .each k keys first (s .so) none inside key ∙ rw (eq-eqb (getD keys o 0) k key)));
+            hashed = from-next first o
+                (λ i a w e. getD-set-other hashes o i h 0 (λ z. omega (arith, w, z)) ∙ s .so .hashed i a w e)
+                (λ e. getD-set-same hashes o h 0 (omega (arith, inside, s .hash-room, s .kept)) ∙ hash);
+          };
+          found = buckets-turn k keys hashes first o table (s .found) h noted start b (s .after)
+              (omega (arith, inside, s .hash-room, s .kept));
+        }
 
     pub marks-none : (getD keys o 0 ≡ k → ⊥)
-        → Marks join skip many k array at keys leads₀ hashes₀ (set leads o dropped) hashes first last (o + 1)
+        → Marks join skip many k array at keys leads₀ hashes₀ (set leads o dropped) hashes table first last (o + 1)
     marks-none f = record {
       long = simp length-set (s .long);
       kept = s .kept;
@@ -309,22 +334,23 @@ module _ (join skip : Names) (many : List ℕ) (k : ℕ) (array at keys leads₀
         led = led-next dropped (lead-is dropped (rw (ne-eqb (getD keys o 0) k f)));
         hashed = from-next first o (λ i a w e. s .so .hashed i a w e) (λ e. absurd (f e));
       };
+      found = buckets-past k keys hashes first o table (s .found) f;
     }
 
-  pub marks-end : (leads hashes : List ℕ) (i : ℕ)
-      → Marks join skip many k array at keys leads₀ hashes₀ leads hashes first last i
+  pub marks-end : (leads hashes table : List ℕ) (i : ℕ)
+      → Marks join skip many k array at keys leads₀ hashes₀ leads hashes table first last i
       → last < i → LeadsPut first last all leads
-  marks-end leads hashes i s h = record { each = λ j a w. s .so .led j a (omega (arith, w, h)) }
+  marks-end leads hashes table i s h = record { each = λ j a w. s .so .led j a (omega (arith, w, h)) }
 
 -- what calls ask
 
 pub held-positions : {array at : List ℕ} → RecordsHeld array at → Positions array at
 held-positions held = held .positions
 
-module _ {join skip : Names} {many : List ℕ} {k : ℕ} {array at keys leads₀ hashes₀ leads hashes : List ℕ}
-    {first last o : ℕ} (s : Marks join skip many k array at keys leads₀ hashes₀ leads hashes first last o) where
-  pub place-after : first ≤ o
-  place-after = s .after
+module _ {join skip : Names} {many : List ℕ} {k : ℕ} {array at keys leads₀ hashes₀ leads hashes table : List ℕ}
+    {first last o : ℕ} (s : Marks join skip many k array at keys leads₀ hashes₀ leads hashes table first last o) where
+  pub table-size : length table ≡ buckets
+  table-size = s .found .size
 
   module _ (h : o ≤ last) where
     pub key-inside : o < length keys

@@ -6,20 +6,21 @@ use mathlib.Core.List.{List, [], _∷_}
 use native.Mathlib.Omega.{arith}
 use mir.Syntax.{w64}
 use mir.Val.{Fits}
-use lib.Dec.{eqb}
+use lib.Dec.{eqb, ltb}
 use lib.ListN.{length, getD, take, length-set}
 use lib.Seq.{length-sets, length-take-le, getD-set-same, getD-take, take-take}
-use borrow.Author.Tests.{eqb-true}
+use borrow.Author.Tests.{eqb-true, ltb-true}
 use Rattle.model.specs.Limits.{maxSeries}
 use Rattle.model.specs.Lists.{cases}
 use Rattle.model.specs.Labels.{Labels}
 use Rattle.plan.specs.Keys.{KeyEnds, dropped}
 use Rattle.plan.specs.Laws.Ends.{first-before, first-last, last-greatest, several-stand, ends-within}
 use Rattle.plan.specs.Joins.{Edit, leadsOf, leadRows, rowCode, onePlace}
-use Rattle.merging.specs.Marks.{bit}
-use Rattle.key_ends.specs.end_codes.Codes.{EndsOf, sideFirst, sideLast, side-first, side-last}
+use Rattle.overwriting.specs.Marks.{bit}
+use Rattle.end_codes.specs.Codes.{sideFirst, sideLast}
+use Rattle.key_ends.specs.Ends.{EndsOf, side-first, side-last}
 use Rattle.index_lists.specs.Places.{NotedAll}
-use Rattle.row_marks.specs.Words.{MarksAt}
+use Rattle.row_marks.specs.Words.{ledBehind, MarksAt}
 use Rattle.row_marks.specs.WordLaws.{bit-zero}
 use Rattle.join_plan.specs.declared.join_leads.Checked.{Checked}
 use Rattle.join_plan.specs.declared.join_leads.Checked.the-variants as C
@@ -186,13 +187,20 @@ module _ (m c n p : ℕ) (rows leads lasts marks₀ : List ℕ) (held : PlaceHel
               ap (λ (x : List ℕ). getD x n 0) (noted .content)
               ∙ getD-set-same list₀ n (rowCode m first) 0 (omega (arith, u, l))
 
+          none-behind : (j : ℕ) → ledBehind (soleLeads first 0 (length leads)) first j ≡ false
+          none-behind j =
+              cases (ltb (suc first + j) (length (soleLeads first 0 (length leads))))
+              (λ e. rw e (let w = ltb-true (suc first + j) (length (soleLeads first 0 (length leads))) e in
+              not-led first (length leads) (held .few) first (suc first + j) (inside f)
+              (omega (arith, w, sole-long first 0 (length leads))) (λ z. omega (arith, z))))
+              (λ e. rw e)
+
           unmarked : n < length list
               → MarksAt (soleLeads first 0 (length leads)) (onePlace (getD list n 0)) (n * 8) marks₀
           unmarked u = rw (code-one (getD list n 0) (here u)) (record {
             each = λ j w.
                 ap (λ x. bit x (j % 64)) (held .clean .each (n * 8 + j / 64) (omega arith)) ∙ bit-zero (j % 64)
-                ∙ sym (not-led first (length leads) (held .few) first (suc first + j) (inside f)
-                (omega (arith, w, sole-long first 0 (length leads))) (λ z. omega (arith, z)));
+                ∙ sym (none-behind j);
           })
 
 -- `place_leads`

@@ -1,10 +1,10 @@
 -- The one-side leaders of a many-side record, marked up to a place, and their last places. Assumes nothing.
-use Prim.Native.Nat.{ℕ, _+_, _≤_, _<_}
+use Prim.Native.Nat.{ℕ, _+_, _%_, _≤_, _<_}
 use mathlib.Core.Path.{_≡_}
-use mathlib.Core.Bool.{false}
+use mathlib.Core.Bool.{false, cond}
 use mathlib.Core.List.{List}
-use lib.Dec.{eqb}
-use lib.ListN.{length, getD}
+use lib.Dec.{eqb, ltb}
+use lib.ListN.{length, getD, set}
 use Rattle.model.specs.Limits.{maxSeries}
 use Rattle.model.specs.Edits.{Names}
 use Rattle.plan.specs.Joins.{leadOf, leadsOf}
@@ -12,7 +12,7 @@ use Rattle.record_tags.specs.Lenient.{labelsOf}
 use Rattle.chosen_tags.specs.Keys.{hashOf}
 use Rattle.set_tags.specs.edited_tags.Streams.{editedTags}
 use Rattle.side_parts.specs.Sides.{recordAt, labelsIn}
-use Rattle.join_series.specs.Works.{tagsBy}
+use Rattle.join_records.specs.Edits.{tagsBy}
 
 -- the leaders of all one-side places for a many-side record of the key k
 abbrev pub leadsIn : Names → Names → List ℕ → ℕ → List ℕ → List ℕ → List ℕ → List ℕ
@@ -21,6 +21,23 @@ leadsIn join skip rec k array at keys = leadsOf (tagsBy join skip) (labelsOf rec
 -- the hash of the tags edited from the record i
 abbrev pub editedHash : Names → Names → List ℕ → List ℕ → List ℕ → ℕ → ℕ
 editedHash join skip many array at i = hashOf (editedTags join skip many (recordAt array at i))
+
+-- places are noted by the buckets of their hashes
+abbrev pub buckets : ℕ
+buckets = 512
+
+abbrev pub bucketOf : ℕ → ℕ
+bucketOf h = h % buckets
+
+-- the place o is noted for the hash h, where none before it is; r is what is noted then
+pub record BucketNoted (table : List ℕ) (h o : ℕ) (after : List ℕ) (r : ℕ) : Type 0 where
+  pub place : r ≡ cond (ltb o (getD table (bucketOf h) 0)) o (getD table (bucketOf h) 0)
+  pub noted : after ≡ set table (bucketOf h) r
+
+-- no place of the key k from its first up to `from` has the hash h
+pub record NoneHashed (k : ℕ) (keys hashes : List ℕ) (first from h : ℕ) : Type 0 where
+  pub order : first ≤ from
+  pub each : (i : ℕ) → first ≤ i → i < from → getD keys i 0 ≡ k → getD hashes i 0 ≡ h → ⊥
 
 -- the places from the key's first up to o have their leaders, and those of the key their hashes
 pub record Marking (join skip : Names) (many : List ℕ) (k : ℕ) (array at keys leads hashes : List ℕ) (first o : ℕ) :
@@ -32,9 +49,10 @@ pub record Marking (join skip : Names) (many : List ℕ) (k : ℕ) (array at key
   pub hashed : (i : ℕ) → first ≤ i → i < o → getD keys i 0 ≡ k
       → getD hashes i 0 ≡ editedHash join skip many array at i
 
--- r leads the place o, of whatever key and keys the leaders before it are
-pub record LeadFound (join skip : Names) (many array at leads hashes : List ℕ) (first o r : ℕ) : Type 0 where
-  pub each : (k : ℕ) (keys : List ℕ) → Marking join skip many k array at keys leads hashes first o → o < length keys
+-- r leads the place o, of whatever key and keys the leaders before it are, where none before `from` has its hash
+pub record LeadFound (join skip : Names) (many array at leads hashes : List ℕ) (from o r : ℕ) : Type 0 where
+  pub each : (k : ℕ) (keys : List ℕ) (first : ℕ) → Marking join skip many k array at keys leads hashes first o
+      → NoneHashed k keys hashes first from (editedHash join skip many array at o) → o < length keys
       → getD keys o 0 ≡ k
       → r ≡ leadOf (tagsBy join skip) (labelsOf many) k (labelsOf (recordAt array at o)) 0 keys (labelsIn array at)
 

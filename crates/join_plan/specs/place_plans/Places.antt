@@ -12,7 +12,7 @@ use Rattle.semantics.specs.Events.{Duplicate}
 use Rattle.plan.specs.Keys.{dropped}
 use Rattle.plan.specs.Joins.{leadsClash, leadRows}
 use Rattle.answers.specs.Plans.{duplicate}
-use Rattle.key_ends.specs.end_codes.Codes.{sideFirst, sideLast}
+use Rattle.end_codes.specs.Codes.{sideFirst, sideLast}
 use Rattle.index_lists.specs.Places.{NotedAll}
 use Rattle.join_plan.specs.lead_marks.Marks.{LeadsPut, LastsNoted}
 use Rattle.join_plan.specs.join_leads.Checks.{LedAs, RowsMarked}

@@ -12,8 +12,8 @@ use Rattle.plan.specs.Joins.{manyPlace, onePlace}
 use Rattle.side_parts.specs.Sides.{rowAt}
 use Rattle.side_parts.specs.Lent.{Sides, BothRowsHeld}
 use Rattle.answers.proofs.Rows.{row-in, row-width}
-use Rattle.merging.specs.Marks.{rowOfMarked}
-use Rattle.merging.specs.MarkLaws.{marked-wide}
+use Rattle.overwriting.specs.Marks.{rowOfMarked}
+use Rattle.overwriting.specs.MarkLaws.{marked-wide}
 use Rattle.row_marks.specs.Words.{unmarked}
 use Rattle.row_marks.specs.WordLaws.{unmarked-row}
 use Rattle.join_series.specs.declared.Work.{Work}

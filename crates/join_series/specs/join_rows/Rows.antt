@@ -7,7 +7,7 @@ use Rattle.plan.specs.Joins.{manyPlace, onePlace}
 use Rattle.side_parts.specs.Sides.{rowAt}
 use Rattle.side_parts.specs.Lent.{Sides}
 use Rattle.answers.specs.Outcomes.{startingWith}
-use Rattle.merging.specs.Marks.{rowOfMarked}
+use Rattle.overwriting.specs.Marks.{rowOfMarked}
 use Rattle.row_marks.specs.Words.{unmarked}
 use Rattle.join_series.specs.declared.Work.{Work}
 use Rattle.join_series.specs.Works.{workedRow}

@@ -2,7 +2,7 @@
 use Prim.Native.Nat.{_-_}
 use lib.ListN.{length}
 use borrow.Author.Needs.{needs}
-use Rattle.key_ends.specs.end_codes.Codes.{pairCode}
+use Rattle.key_ends.specs.Ends.{pairCode}
 use Rattle.key_ends.proofs.Putting.{Putting, joining-starts, putting-room, putting-long, left-small, right-room, right-small, join-turn, join-put}
 use Rattle.key_ends.proofs.join_ends.Statement.{statement}
 use Rattle.key_ends.proofs.join_ends.Tie as tie

@@ -3,7 +3,7 @@ use Prim.Native.Nat.{_-_}
 use lib.ListN.{length}
 use borrow.Author.Needs.{needs}
 use native.Mathlib.Omega.{arith}
-use Rattle.key_ends.specs.end_codes.Codes.{endsCode}
+use Rattle.key_ends.specs.Ends.{endsCode}
 use Rattle.key_ends.proofs.Putting.{Putting, putting-starts, putting-room, putting-long, ends-turn, ends-put}
 use Rattle.key_ends.proofs.put_ends.Statement.{statement}
 use Rattle.key_ends.proofs.put_ends.Tie as tie

@@ -1,7 +1,7 @@
 -- The merges of the sides of a pair. Assumes nothing.
 use Prim.Native.Nat.{ℕ, suc, _+_, _-_, _*_, _≤_, _<_}
 use mathlib.Core.Path.{_≡_, refl, sym, ap, _∙_}
-use mathlib.Core.Bool.{Bool, true, false}
+use mathlib.Core.Bool.{Bool, true, false, _&&_}
 use mathlib.Core.Option.{none, some}
 use mathlib.Core.List.{List, _++_}
 use native.Mathlib.Numerals.{add-one}
@@ -14,7 +14,8 @@ use Rattle.model.specs.Row.{overwritten, merged}
 use Rattle.model.specs.Laws.Row.{overwritten-wide}
 use Rattle.model.specs.Query as Model
 use Rattle.side_parts.specs.Lent.{RowsHeld, rowSides, Sides}
-use Rattle.key_ends.specs.end_codes.Codes.{leftLast, rightLast, CodeOf, left-last, right-last}
+use Rattle.end_codes.specs.Codes.{leftLast, rightLast}
+use Rattle.key_ends.specs.Ends.{CodeOf, left-last, right-last}
 use Rattle.plan.specs.Keys.{firstOf, lastOf, KeyEnds}
 use Rattle.plan.specs.Merging.{RowMerge, row, failedAt, mergeGroup, mergeLast, clash}
 use Rattle.side_parts.specs.Sides.{rowAt}
@@ -22,14 +23,17 @@ use Rattle.plan.specs.Conclude.{orElse}
 use Rattle.plan.specs.Pairs.{isPair, pairClash, pairsClash}
 use Rattle.merging.specs.declared.Merges.{Merges}
 use Rattle.merging.specs.declared.Merges.the-variants.{Done, FailedAt}
-use Rattle.merge.specs.Merging.{mergedIf}
+use Rattle.merge.specs.Merging.{mergedIf, mergeable, mergeable-merges}
 use Rattle.answers.specs.Plans.{duplicate}
 use Rattle.answers.proofs.Rows.{row-in, row-width}
 use Rattle.merging.specs.Groups.{mergesTo, MergedGroup}
-use Rattle.plan.specs.Laws.Ends.{first-last, ends-within, several-stand}
-use Rattle.merging.specs.Several.{single-row, none-among, several, several-merged}
+use Rattle.plan.specs.Laws.Ends.{first-last, last-most, ends-within, several-stand}
+use Rattle.overwriting.specs.Several.{single-row, none-among, several, several-merged}
 use Rattle.pair_plan.specs.declared.pair_checks.Checked.{Checked}
 use Rattle.pair_plan.specs.declared.pair_checks.Checked.the-variants as C
+use Rattle.pair_plan.specs.tried_merges.Tries.{twoAt}
+use Rattle.pair_plan.proofs.tried_merges.Tries as Tries
+use Rattle.pair_plan.proofs.tried_merges.Tries.{two-order}
 use Rattle.pair_plan.specs.pair_checks.Checks.{failureOf, failedIn, clashIn, clashAt}
 
 -- what the code tells of merges that are to come to `want`
@@ -177,6 +181,64 @@ module _ (allowance p : ℕ) (left lkeys right rkeys : List ℕ) (k : ℕ) (a : 
     check-fine f =
         rw (← left-fine (lastOf lkeys k))
         (clash-of Model.right (lastOf rkeys k) (mergeLast allowance p right rkeys k) (rw f at hb))
+
+-- `two_merge`
+
+pub ends-inside : (keys : List ℕ) (k first last : ℕ) → KeyEnds keys k first last → last ≤ length keys
+ends-inside keys k first last e = omega (arith, e .last-place, last-most k keys)
+
+-- two series of a key on one side
+pub record Two (p : ℕ) (rows keys : List ℕ) (k first last : ℕ) : Type 0 where
+  pub held : RowsHeld p rows keys
+  pub ends : KeyEnds keys k first last
+  pub two : twoAt keys k first last ≡ true
+
+pub told-two : (p : ℕ) (rows keys : List ℕ) (k first last : ℕ) → RowsHeld p rows keys → KeyEnds keys k first last
+    → (r : Bool) → r ≡ twoAt keys k first last → r ≡ true → Two p rows keys k first last
+told-two p rows keys k first last held ends r h t = record { held = held; ends = ends; two = sym h ∙ t }
+
+module _ (p : ℕ) (rows keys : List ℕ) (k first last : ℕ) (b : Two p rows keys k first last) where
+  pub last-of-two : last * p + p ≤ length rows
+  last-of-two = last-there 0 p rows keys k first last (b .held) (b .ends) (two-order keys k first last (b .two))
+
+  pub first-of-two : first * p + p ≤ length rows
+  first-of-two = first-there 0 p rows keys k first last (b .held) (b .ends) (two-order keys k first last (b .two))
+
+  pub last-of-two-wide : (x : List ℕ) → x ≡ rowAt p rows last → length x ≡ p
+  last-of-two-wide x hx = row-width p rows x last last-of-two hx
+
+  pub first-of-two-wide : (y : List ℕ) → y ≡ rowAt p rows first → length y ≡ p
+  first-of-two-wide y hy = row-width p rows y first first-of-two hy
+
+  two-fine : (allowance : ℕ) (x y : List ℕ) → x ≡ rowAt p rows last → y ≡ rowAt p rows first
+      → mergeable allowance x y ≡ true → none ≡ failureOf (mergeLast allowance p rows keys k)
+  two-fine allowance x y hx hy m =
+      two-merge allowance p rows keys k first last (b .held) (b .ends) (two-order keys k first last (b .two)) true
+      (sym (mergeable-merges allowance (rowAt p rows last) (rowAt p rows first) (rw (hx, hy) at m))) refl false
+      (sym (Tries.none-among keys k first last (b .two))) refl
+
+one-holds : (a b : Bool) → (a && b) ≡ true → a ≡ true
+one-holds true b h = refl
+one-holds false b h = cc
+
+other-holds : (a b : Bool) → (a && b) ≡ true → b ≡ true
+other-holds true b h = h
+other-holds false b h = cc
+
+pub both-fine : (p : ℕ) (left lkeys right rkeys : List ℕ) (k lf ll rf rl : ℕ) → Two p left lkeys k lf ll
+    → Two p right rkeys k rf rl → (allowance : ℕ) (x y v w : List ℕ) → x ≡ rowAt p left ll → y ≡ rowAt p left lf
+    → v ≡ rowAt p right rl → w ≡ rowAt p right rf → (r : Bool)
+    → r ≡ (mergeable allowance x y && mergeable allowance v w)
+    → r ≡ true → none ≡ pairClash allowance (rowSides p lkeys left rkeys right) k
+both-fine p left lkeys right rkeys k lf ll rf rl l r allowance x y v w hx hy hv hw b told t =
+    let m : (mergeable allowance x y && mergeable allowance v w) ≡ true = sym told ∙ t in
+    check-fine allowance p left lkeys right rkeys k Done
+    (two-fine p left lkeys k lf ll l allowance x y hx hy
+    (one-holds (mergeable allowance x y) (mergeable allowance v w) m))
+    refl Done
+    (two-fine p right rkeys k rf rl r allowance v w hv hw
+    (other-holds (mergeable allowance x y) (mergeable allowance v w) m))
+    refl
 
 -- `check_at`
 

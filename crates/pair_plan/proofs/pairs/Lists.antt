@@ -10,7 +10,7 @@ use lib.Seq.{drop-cons}
 use Rattle.model.specs.Lists.{cases}
 use Rattle.index_lists.specs.Places.{NotedIf, NotedAll}
 use Rattle.index_lists.proofs.Noting.{Noting, noting-starts, noting-turn, noting-length, noting-ends}
-use Rattle.key_ends.specs.end_codes.Codes.{PairEnds}
+use Rattle.key_ends.specs.Ends.{PairEnds}
 use Rattle.plan.specs.Pairs.{isPair}
 use Rattle.pair_plan.specs.pairs.Pairing.{codesFrom}
 

@@ -8,7 +8,8 @@ use lib.Dec.{eqb, ltb}
 use lib.ListN.{length}
 use borrow.Author.Tests.{eq-eqb, ne-eqb, eqb-true, ltb-true}
 use Rattle.model.specs.Laws.Booleans.{both-of}
-use Rattle.key_ends.specs.end_codes.Codes.{leftFirst, rightFirst, CodeOf, left-first, right-first}
+use Rattle.end_codes.specs.Codes.{leftFirst, rightFirst}
+use Rattle.key_ends.specs.Ends.{CodeOf, left-first, right-first}
 use Rattle.plan.specs.Keys.{dropped, firstOf}
 use Rattle.plan.specs.Pairs.{isPair}
 

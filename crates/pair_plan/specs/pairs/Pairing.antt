@@ -4,7 +4,7 @@ use mathlib.Core.Bool.{cond}
 use mathlib.Core.List.{List, [], _∷_}
 use Rattle.plan.specs.Pairs.{isPair}
 use Rattle.side_parts.specs.Lent.{Sides}
-use Rattle.key_ends.specs.end_codes.Codes.{pairCode}
+use Rattle.key_ends.specs.Ends.{pairCode}
 
 -- the codes of the left places from i on, whose keys are `rest`: the places of each key that begins a pair
 unfoldable pub codesFrom : List ℕ → List ℕ → ℕ → List ℕ → List ℕ

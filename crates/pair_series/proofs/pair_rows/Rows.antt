@@ -9,8 +9,8 @@ use borrow.Author.Tests.{le-leb, lt-leb}
 use Rattle.model.specs.Row.{zipWith}
 use Rattle.side_parts.specs.Sides.{rowAt}
 use Rattle.side_parts.specs.Lent.{RowsHeld}
-use Rattle.merging.specs.Overwriting.{rowOfSeveral}
-use Rattle.merging.specs.OverLaws.{several-wide}
+use Rattle.overwriting.specs.Overwriting.{rowOfSeveral}
+use Rattle.overwriting.specs.OverLaws.{several-wide}
 use Rattle.answers.specs.Outcomes.{startingWith}
 use Rattle.answers.proofs.Rows.{row-in, row-width}
 use Rattle.pair_series.specs.pair_rows.Rows.{codedSide, sideWork}

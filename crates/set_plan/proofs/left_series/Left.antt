@@ -10,7 +10,7 @@ use Rattle.operator.specs.Kinds.{SetRule}
 use Rattle.model.specs.Row.{onlyMissing}
 use Rattle.model.specs.Laws.Booleans.{and-false}
 use Rattle.plan.specs.Sets.{setRow, needsMatch, dropsEmpty, leftAnswers}
-use Rattle.key_ends.specs.end_codes.Codes.{sideFirst, sideLast}
+use Rattle.end_codes.specs.Codes.{sideFirst, sideLast}
 use Rattle.index_lists.specs.Places.{NotedAll, codedMet}
 use Rattle.index_lists.proofs.Meeting.{none-listed, some-listed, met-front}
 use Rattle.set_plan.specs.Codes.{fallen}

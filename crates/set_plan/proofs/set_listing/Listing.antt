@@ -18,7 +18,8 @@ use Rattle.side_parts.specs.Lent.{Sides, RowsHeld}
 use Rattle.plan.specs.Keys.{firstOf}
 use Rattle.plan.specs.Sets.{SetWork, metPlaces, answersAt, leftsFrom, rightsFrom}
 use Rattle.answers.proofs.Rows.{row-width}
-use Rattle.key_ends.specs.end_codes.Codes.{codes, bothCode, SideEnds, sideFirst, side-first, ends-at}
+use Rattle.end_codes.specs.Codes.{codes, bothCode, sideFirst}
+use Rattle.key_ends.specs.Ends.{SideEnds, side-first, ends-at}
 use Rattle.index_lists.specs.Places.{NotedIf, NotedAll}
 use Rattle.index_lists.proofs.Noting.{Noting, noting-starts, noting-turn, noting-length, noting-ends}
 use Rattle.set_series.proofs.Rows.{row-in}

@@ -7,7 +7,7 @@ use lib.ListN.{length}
 use lib.Seq.{sets}
 use Rattle.operator.specs.Kinds.{SetRule}
 use Rattle.plan.specs.Sets.{leftAnswers}
-use Rattle.key_ends.specs.end_codes.Codes.{sideFirst, sideLast}
+use Rattle.end_codes.specs.Codes.{sideFirst, sideLast}
 use Rattle.index_lists.specs.Places.{codedMet}
 
 -- the right places between two ends

@@ -7,7 +7,7 @@ use lib.ListN.{length}
 use lib.Seq.{sets}
 use Rattle.plan.specs.Sets.{SetWork, metPlaces, leftsFrom, rightsFrom}
 use Rattle.side_parts.specs.Lent.{Sides, BothRowsHeld}
-use Rattle.key_ends.specs.end_codes.Codes.{bothCode}
+use Rattle.end_codes.specs.Codes.{bothCode}
 use Rattle.index_lists.specs.Places.{NotedAll}
 use Rattle.set_plan.specs.Codes.{setCode}
 

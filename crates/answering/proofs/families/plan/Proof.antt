@@ -1,5 +1,4 @@
 -- `plan` meets its contract. Assumes nothing.
-use native.Mathlib.Omega.{arith}
 use borrow.Author.Needs.{needs}
 use Rattle.answering.proofs.Answers.{both-rows}
 use Rattle.answering.proofs.families.Plans.{pairs-planned, join-planned, set-planned}
@@ -12,8 +11,7 @@ plan-pairs-requires c κs = both-rows _ (c .before .before .before .before .befo
 plan-join-requires : tie.Need-plan-join-requires
 plan-join-requires c κs =
     let pre = c .before .before .before .before .before .before .before .pre in
-    let long = pre .1 .0 in
-    (pre .0, (omega (arith, long), pre .1 .1 .1))
+    (pre .0, pre .1 .1 .1)
 
 returns : tie.Need-returns
 returns c =

@@ -9,11 +9,11 @@ use Rattle.join_plan.proofs.lead_marks.find_lead.Statement.{statement}
 use Rattle.join_plan.proofs.lead_marks.find_lead.Tie as tie
 
 abbrev Inv-loop : tie.InvT-loop
-Inv-loop many array at leads hashes first o h join skip rec n₀ n =
-    Finding (namesOf join) (namesOf skip) many array at leads hashes first o n
+Inv-loop many array at leads hashes from o h join skip rec n₀ n =
+    Finding (namesOf join) (namesOf skip) many array at leads hashes from o n
 
 abbrev μ-loop : tie.MeasureT-loop
-μ-loop many array at leads hashes first o h join skip rec n₀ n = o - n
+μ-loop many array at leads hashes from o h join skip rec n₀ n = o - n
 
 record-requires-2 : tie.Need-record-requires-2 Inv-loop μ-loop
 record-requires-2 c κs = (search needs, omega arith)

@@ -1,7 +1,7 @@
 -- `check_at` meets its contract. Assumes nothing.
 use Rattle.pair_plan.proofs.pairs.Pairing.{pair-left, pair-right}
 use Rattle.pair_plan.proofs.pair_checks.Checks.{at-pair, at-none}
-use Rattle.key_ends.specs.end_codes.Codes.{code-at}
+use Rattle.key_ends.specs.Ends.{code-at}
 use borrow.Author.Needs.{needs}
 use Rattle.pair_plan.proofs.pair_checks.check_at.Statement.{statement}
 use Rattle.pair_plan.proofs.pair_checks.check_at.Tie as tie

@@ -1,6 +1,6 @@
 -- `check_pair` meets its contract. Assumes nothing.
 use Rattle.pair_plan.proofs.pair_checks.Checks.{check-left, check-right, check-fine}
-use Rattle.key_ends.specs.end_codes.Codes.{left-ends, right-ends}
+use Rattle.key_ends.specs.Ends.{left-ends, right-ends}
 use borrow.Author.Needs.{needs}
 use Rattle.pair_plan.proofs.pair_checks.check_pair.Statement.{statement}
 use Rattle.pair_plan.proofs.pair_checks.check_pair.Tie as tie

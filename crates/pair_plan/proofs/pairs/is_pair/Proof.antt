@@ -1,6 +1,6 @@
 -- `is_pair` meets its contract. Assumes nothing.
 use Rattle.pair_plan.proofs.pairs.Pairing.{pair-dropped, pair-later, pair-told}
-use Rattle.key_ends.specs.end_codes.Codes.{code-at}
+use Rattle.key_ends.specs.Ends.{code-at}
 use borrow.Author.Needs.{needs}
 use Rattle.pair_plan.proofs.pairs.is_pair.Statement.{statement}
 use Rattle.pair_plan.proofs.pairs.is_pair.Tie as tie

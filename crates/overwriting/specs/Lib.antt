@@ -1,0 +1,5 @@
+pub mod Overwriting
+pub mod OverLaws
+pub mod Several
+pub mod Marks
+pub mod MarkLaws

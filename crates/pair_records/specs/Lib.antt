@@ -1,0 +1,2 @@
+pub mod adjusted_labels
+pub mod Records
