@@ -8,7 +8,8 @@ Installs nothing.
 
 Random cases of `and`, `unless`, one-to-one operators and group joins are run through vecop, and its answer is the expected
 result of a unit test of promtool at each point. Samples are an hour apart, so that with Prometheus' look-back of five minutes an
-hour without a sample is empty. The sides are told apart by metric name, l and r, which is never in the key.
+hour without a sample is empty; the answer must have their grid. The sides are told apart by metric name, l and r, which is never
+in the key.
 
 What is left out, because Prometheus refuses it or reads it in another way: several one-side series a key; two series of a key
 with a reading at the same point, on either side of a one-to-one operator; equal labels in a result; a label in `on` and in a
@@ -35,6 +36,8 @@ SETS = ("and", "unless")
 KEYS = ("a", "b", "c")
 VALUES = ("x", "y")
 BATCH = 200
+# Of samples an hour apart, as promtool has them: from 0 on.
+START, STEP = 0, 3600000
 
 
 class Case:
@@ -132,14 +135,15 @@ class Case:
 def vector(name, side, points):
     def record(labels):
         return wire.record(name, [(key.encode(), labels[key].encode()) for key in sorted(labels)])
-    return wire.vector(points, [(record(labels), [wire.bits(r) for r in row]) for labels, row in side])
+    return wire.vector(points, [(record(labels), [wire.bits(r) for r in row]) for labels, row in side], START, STEP)
 
 
 def vecop(words, case):
-    """The answer's series, each its labels and its row, or the refusal's line. Labels here need no escapes."""
+    """The answer's series, each its labels and its row; or the line of a refusal, or of an answer that lost points or grid. Labels here
+    need no escapes."""
     framed = wire.frame(case.query(), vector(b"l", case.left, case.points), vector(b"r", case.right, case.points))
     lines = subprocess.run(words, input=framed, stdout=subprocess.PIPE, check=True).stdout.decode().splitlines()
-    if not lines[0].startswith("answer "):
+    if lines[0].split(" ") != ["answer", str(len(lines) - 1), str(case.points), str(START), str(STEP)]:
         return lines[0]
     rows = []
     for line in lines[1:]:

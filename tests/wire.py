@@ -1,7 +1,8 @@
 """The bytes of the scope document (docs/SCOPE.md), encoded: fields, lists, queries, records, sizes, vectors, and the input of `vecop`.
 
 One place for all that writes them in Python: the generators of tests/expected, `quote` and oracle/promtool.py. Nothing is checked
-here but that a number fits its bytes, so that what a call refuses can be encoded too. Integers are little-endian."""
+here but that a number fits its bytes, so that what a call refuses can be encoded too. Integers are little-endian. A vector whose grid is
+not told has a reading an hour, from 0 on."""
 import struct
 
 METRIC_GROUP = b'__name__'
@@ -12,6 +13,8 @@ ADD, AND, ATAN2, DEFAULT, DIV, EQL, MOD, MUL, POW, SUB, GT, GTE, IF, IF_NOT, LT,
 ALL, ON, IGNORING = range(3)
 ONE_TO_ONE, GROUP_LEFT, GROUP_RIGHT, MANY_TO_MANY = range(4)
 KEEP_NAMES, BOOL = 1, 2
+START, STEP = 0, 3600000
+MAX_START, MAX_STEP = 2**52, 86400000
 
 
 def field(content):
@@ -38,18 +41,18 @@ def record(name, tags=()):
     return field(name) + bytes([len(tags)]) + tag_fields(tags)
 
 
-def sizes(series, points, label_bytes):
-    """What a vector begins with."""
-    return struct.pack('<HHH', series, points, label_bytes)
+def sizes(series, points, label_bytes, start=START, step=STEP):
+    """What a vector begins with; start and step are in milliseconds."""
+    return struct.pack('<HHHQI', series, points, label_bytes, start, step)
 
 
 SIZES = len(sizes(0, 0, 0))
 
 
-def label_part(series, points, records):
+def label_part(series, points, records, start=START, step=STEP):
     """The sizes and the label array of a vector; as many series are stated as the first number says."""
     array = b''.join(records)
-    return sizes(series, points, len(array)) + array
+    return sizes(series, points, len(array), start, step) + array
 
 
 def bits(value):
@@ -67,10 +70,10 @@ def readings(row):
     return struct.pack(f'<{len(row)}Q', *row)
 
 
-def vector(points, series):
+def vector(points, series, start=START, step=STEP):
     """A whole vector of series, each given by its record and the bits of its row."""
     rows = b''.join(readings(row) for _, row in series)
-    return label_part(len(series), points, [labels for labels, _ in series]) + rows
+    return label_part(len(series), points, [labels for labels, _ in series], start, step) + rows
 
 
 def frame(*parts):

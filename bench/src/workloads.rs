@@ -44,7 +44,7 @@ fn side(r: &mut Random, n: usize, p: usize, each: usize, tags: usize, gaps: Gaps
         let labels = Labels { name: format!("count{turn}").into_bytes(), tags: (0..tags).map(tag).collect() };
         series.push(Series { labels, row });
     }
-    Vector { points: p, series }
+    Vector::hourly(p, series)
 }
 
 fn tag(key: &str, value: usize) -> Tag {

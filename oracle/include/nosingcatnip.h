@@ -1,4 +1,4 @@
-/* Labelled vector operators over series with gaps. Document 01 of the project says what a query, a label part and a refusal are.
+/* Labelled vector operators over series with gaps. docs/SCOPE.md of the project says what a query, a label part and a refusal are.
  *
  * Link with libnosingcatnip.a and -lm. The function keeps nothing between calls, so calls on disjoint output parts may run at
  * the same time. */
@@ -14,23 +14,26 @@ extern "C" {
 
 /* What a call reports, by index into its result. */
 enum {
-    NOSINGCATNIP_NUMBER = 0,      /* 0 for an answer, else the refusal's number, 1 to 10 */
+    NOSINGCATNIP_NUMBER = 0,      /* 0 for an answer, else the refusal's number, 1 to 12 */
     NOSINGCATNIP_FIELD_1 = 1,     /* the refusal's first field; 0 for an answer */
     NOSINGCATNIP_FIELD_2 = 2,     /* the refusal's second field; 0 for an answer */
     NOSINGCATNIP_SERIES = 3,      /* the answer's series; 0 for a refusal */
     NOSINGCATNIP_POINTS = 4,      /* the answer's points; 0 for a refusal */
-    NOSINGCATNIP_LABEL_BYTES = 5, /* the answer's label bytes; 0 for a refusal */
-    NOSINGCATNIP_RESULT = 6       /* the result's length */
+    NOSINGCATNIP_START = 5,       /* the time of the answer's first point, in milliseconds; 0 for a refusal */
+    NOSINGCATNIP_STEP = 6,        /* the milliseconds from a point of the answer to the next; 0 for a refusal */
+    NOSINGCATNIP_LABEL_BYTES = 7, /* the answer's label bytes; 0 for a refusal */
+    NOSINGCATNIP_RESULT = 8       /* the result's length */
 };
 
 /* Runs a query over two vectors.
  *
- * Each part is a pointer and its number of elements. A label part begins with the six bytes of sizes (series, points, length of
- * the label array, two bytes each, little-endian), then has the label array. Readings are the bits of binary64 numbers, row by
- * row; any NaN is a missing reading.
+ * Each part is a pointer and its number of elements. A label part begins with 18 bytes of sizes, little-endian: series, points and
+ * length of the label array, two bytes each; start in milliseconds, eight bytes, 0 to 2^52; step in milliseconds, four bytes, 1 to
+ * 86,400,000. Then it has the label array. Readings are the bits of binary64 numbers, row by row; any NaN is a missing reading.
+ * Reading i of a row is of the time start + i * step; both sides have the same start and step, and so has the answer.
  *
  * An answer's label records are written at the start of out_labels and its rows at the start of out; what lies behind them
- * stays. A refusal changes neither part. All six numbers of result are written at each call.
+ * stays. A refusal changes neither part. All eight numbers of result are written at each call.
  *
  * No pointer may be null, even where its length is 0; pointers to uint64_t are aligned to 8 bytes; out_labels, out and result
  * overlap no other part. */
@@ -42,7 +45,7 @@ void nosingcatnip_exec_binop(
     const uint64_t *right, size_t right_len,
     uint8_t *out_labels, size_t out_labels_len,
     uint64_t *out, size_t out_len,
-    uint64_t result[6]);
+    uint64_t result[NOSINGCATNIP_RESULT]);
 
 #ifdef __cplusplus
 }

@@ -1,9 +1,10 @@
-"""crates/test_replay: the stored sample, and examples with what 01 says of them, each outcome written out here by hand."""
+"""crates/test_replay: the stored sample, and examples with what 01 and 02 say of them, each outcome written out here by hand."""
 import struct
 
 import wire
 from expected import read
 from wire import ADD, AND, ATAN2, DIV, GROUP_LEFT, GROUP_RIGHT, KEEP_NAMES, MUL, ON, OR, POW, SIZES, UNLESS, number, part, query
+from wire import MAX_START, MAX_STEP, START, STEP
 from wire import MISSING as N
 
 ROOM = (65535, 8192)
@@ -18,18 +19,19 @@ def reading(x):
     return x if isinstance(x, int) else wire.bits(x)
 
 
-def vector(points, *series):
+def vector(points, *series, **grid):
     """A label part and its readings, of series given as record and row."""
-    return wire.label_part(len(series), points, [labels for labels, _ in series]), [x for _, row in series for x in row]
+    labels = wire.label_part(len(series), points, [labels for labels, _ in series], **grid)
+    return labels, [x for _, row in series for x in row]
 
 
 def refused(number, first=0, second=0):
-    return (number, first, second, 0, 0, 0), (b'', [])
+    return (number, first, second, 0, 0, 0, 0, 0), (b'', [])
 
 
-def answer(points, *series):
+def answer(points, *series, start=START, step=STEP):
     labels, readings = vector(points, *series)
-    return (0, 0, 0, len(series), points, len(labels) - SIZES), (labels[SIZES:], readings)
+    return (0, 0, 0, len(series), points, start, step, len(labels) - SIZES), (labels[SIZES:], readings)
 
 
 BARE = record(b'')
@@ -96,6 +98,7 @@ def faults():
     yield 3, vector(1, good, (tags(33), [1.])), 1
     yield 4, vector(1, good, (record(b'', __name__='m'), [1.])), 1
     yield 5, vector(1, good, (A, [])), 0
+    yield 11, vector(1, good, start=MAX_START + 1), 0
 
 
 def both_sides():
@@ -148,6 +151,48 @@ def running():
     yield 'an answer that just fits', query(DIV), FED, WASTE, (10, 3), QUOTIENT
 
 
+def grids():
+    """Sides of one series, and of none, on every grid at the ends of the ranges and beyond them."""
+    one = (A, [1.])
+    for start, step in (0, 1), (0, MAX_STEP), (MAX_START, 1), (MAX_START, MAX_STEP), (1772431200000, 3600000):
+        at = {'start': start, 'step': step}
+        name = f'from {start} every {step}'
+        yield f'a sum {name}', PLUS, vector(1, one, **at), vector(1, one, **at), ROOM, answer(1, (A, [2.]), **at)
+        yield f'no series {name}', query(AND), vector(1, one, **at), vector(1, **at), ROOM, answer(1, **at)
+        yield f'no points {name}', query(OR), vector(0, **at), vector(0, (A, []), **at), ROOM, answer(0, (A, []), **at)
+    for start, step in (MAX_START + 1, 1), (2**64 - 1, 1), (0, 0), (0, MAX_STEP + 1), (0, 2**32 - 1):
+        at = {'start': start, 'step': step}
+        name = f'from {start} every {step}'
+        yield f'11 {name}', PLUS, vector(1, one, **at), ONE, ROOM, refused(11, 0, 0)
+        yield f'11 {name} on the right', PLUS, ONE, vector(1, one, **at), ROOM, refused(11, 1, 0)
+        yield f'11 {name}, no series', PLUS, vector(0, **at), vector(0), ROOM, refused(11, 0, 0)
+        yield f'513 series before 11 {name}', PLUS, vector(0, *[(BARE, [])] * 513, **at), ONE, ROOM, refused(3, 0, 0)
+        yield f'1,025 points before 11 {name}', PLUS, ONE, vector(1025, **at), ROOM, refused(3, 1, 0)
+        long = wire.sizes(1, 1, len(A) + 1, **at) + A
+        yield f'11 {name} before the array\'s length', PLUS, (long, [1.]), ONE, ROOM, refused(11, 0, 0)
+    bad = wire.label_part(0, 0, [], MAX_START + 1, 0)
+    for i in range(SIZES):
+        yield f'sizes cut at {i} before 11', PLUS, (bad[:i], []), ONE, ROOM, refused(3, 0, 0)
+        yield f'sizes cut at {i} before 11 on the right', PLUS, ONE, (bad[:i], []), ROOM, refused(3, 1, 0)
+
+
+def unequal_grids():
+    twice = [(BARE, [1.]), (BARE, [1.])]
+    for name, at in ('start', {'start': 1}), ('step', {'step': 1}), ('start and step', {'start': MAX_START, 'step': MAX_STEP}):
+        yield f'12 by {name}', PLUS, ONE, vector(1, (BARE, [1.]), **at), ROOM, refused(12)
+        yield f'12 by {name}, exchanged', PLUS, vector(1, (BARE, [1.]), **at), ONE, ROOM, refused(12)
+        yield f'12 by {name} with both sides empty', query(OR), vector(0), vector(0, **at), ROOM, refused(12)
+        yield f'12 by {name} with the left side empty', query(OR), vector(1, **at), ONE, ROOM, refused(12)
+        yield f'12 by {name} with the right side empty', query(AND), ONE, vector(1, **at), ROOM, refused(12)
+        yield f'6 before 12 by {name}', PLUS, ONE, vector(2, (BARE, [1., 1.]), **at), ROOM, refused(6)
+        yield f'6 before 12 by {name} with both sides empty', PLUS, vector(0, **at), vector(1), ROOM, refused(6)
+        yield f'12 by {name} before 7', PLUS, vector(1, *twice, **at), ONE, ROOM, refused(12)
+        yield f'12 by {name} before 8', PLUS, ONE, vector(1, *twice, **at), ROOM, refused(12)
+        yield f'12 by {name} before 10', PLUS, ONE, vector(1, (BARE, [1.]), **at), (0, 0), refused(12)
+        for number, right, place in faults():
+            yield f'{number} on the right before 12 by {name}', PLUS, vector(1, **at), right, ROOM, refused(number, 1, place)
+
+
 def rows(readings):
     return part(wire.readings([reading(x) for x in readings]))
 
@@ -155,11 +200,11 @@ def rows(readings):
 def case(asked, left, right, room, outcome):
     """A case as oracle/README.md has it."""
     numbers, (labels, readings) = outcome
-    return (b''.join(map(number, (*room, *numbers))) + part(asked) + part(left[0]) + rows(left[1]) + part(right[0])
+    return (b''.join(map(number, room)) + rows(numbers) + part(asked) + part(left[0]) + rows(left[1]) + part(right[0])
             + rows(right[1]) + part(labels) + rows(readings))
 
 
-examples = [*settled(), *misreadings(), *both_sides(), *query_faults(), *running()]
+examples = [*settled(), *misreadings(), *both_sides(), *query_faults(), *running(), *grids(), *unequal_grids()]
 sample = read('oracle/sample/cases.bin')
 count, = struct.unpack_from('<H', sample)
 FILES = {

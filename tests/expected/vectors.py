@@ -1,8 +1,8 @@
-"""crates/test_vectors: vectors, and what 01 says of taking them, worked out here apart from the program."""
+"""crates/test_vectors: vectors, and what 01 and 02 say of taking them, worked out here apart from the program."""
 import random
 import struct
 
-from wire import METRIC_GROUP, SIZES, label_part, number, part, record, sizes
+from wire import MAX_START, MAX_STEP, METRIC_GROUP, SIZES, label_part, number, part, record, sizes
 
 
 def field_at(s, i):
@@ -34,9 +34,13 @@ def taken(labels, readings):
     """What taking comes to, and the positions noted by then."""
     if len(labels) < SIZES:
         return '3 0', []
-    series, points, size = struct.unpack_from('<HHH', labels)
+    series, points, size, start, step = struct.unpack_from('<HHHQI', labels)
     array = labels[SIZES:]
-    if series > 512 or points > 1024 or len(array) != size:
+    if series > 512 or points > 1024:
+        return '3 0', []
+    if start > 2**52 or not 1 <= step <= 86400000:
+        return '11 0', []
+    if len(array) != size:
         return '3 0', []
     at, i = [], 0
     for place in range(series):
@@ -49,7 +53,7 @@ def taken(labels, readings):
         return f'3 {series}', at
     if readings != series * points:
         return '5 0', at
-    return f'vector {series} {points}', at
+    return f'vector {series} {points} {start} {step}', at
 
 
 BARE = record(b'')
@@ -120,6 +124,33 @@ def several_faults():
     yield label_part(3, 1, [FED, EMPTY_KEY, TAGS_33]), 3
 
 
+# starts and steps outside their ranges; each alone is 11
+BAD_GRIDS = [(MAX_START + 1, 1), (2**53, 1), (2**63, 1), (2**64 - 1, 1), (0, 0), (0, MAX_STEP + 1), (0, 2**31), (0, 2**32 - 1),
+             (MAX_START + 1, 0), (2**64 - 1, 2**32 - 1)]
+
+
+def grids():
+    starts = [0, 1, 255, 256, 65536, 2**32 - 1, 2**32, 1772431200000, MAX_START - 1, MAX_START]
+    steps = [1, 2, 255, 256, 65535, 65536, 900000, 3600000, 2**24, MAX_STEP - 1, MAX_STEP]
+    for start, step in [*((start, MAX_STEP) for start in starts), *((MAX_START, step) for step in steps), (0, 1)]:
+        yield label_part(1, 2, [FED], start, step), 2
+        yield label_part(0, 0, [], start, step), 0
+    for start, step in BAD_GRIDS:
+        yield label_part(1, 2, [FED], start, step), 2
+        yield label_part(0, 0, [], start, step), 0  # no series and no points need a good grid too
+        yield label_part(513, 2, [FED], start, step), 2  # 3 by a limit comes first
+        yield label_part(1, 1025, [FED], start, step), 2
+        yield sizes(1, 2, len(FED) + 1, start, step) + FED, 2  # and 3 by the array's length after it, as all the others
+        yield sizes(1, 2, 0, start, step) + FED, 2
+        yield label_part(1, 2, [EMPTY_KEY], start, step), 2
+        yield label_part(1, 2, [FED[:3]], start, step), 2
+        yield label_part(1, 2, [FED], start, step), 1
+    bad = label_part(1, 2, [FED], MAX_START + 1, 0)
+    for i in range(SIZES):  # cut before byte 18 is 3, whatever the grid
+        yield bad[:i], 2
+    yield bad[:SIZES], 2
+
+
 def damaged_bytes():
     rng = random.Random(7)
     good = label_part(3, 2, [FED, WASTE, KEYS_UP])
@@ -133,7 +164,7 @@ def shown(outcome, at):
     return outcome + ' at' + ''.join(f' {i}' for i in at) + '\n'
 
 
-cases = [*limits(), *lengths(), *keys(), *several_faults(), *damaged_bytes()]
+cases = [*limits(), *lengths(), *keys(), *several_faults(), *grids(), *damaged_bytes()]
 FILES = {
     'test_vectors/stdin': b''.join(part(labels) + number(readings) for labels, readings in cases),
     'test_vectors/stdout': ''.join(shown(*taken(*case)) for case in cases),

@@ -11,7 +11,7 @@ use Rattle.model.specs.Lists.{gather}
 use Rattle.model.specs.Labels.{Labels}
 use Rattle.model.specs.Vector.{Series}
 use Rattle.semantics.specs.Call.{fit}
-use Rattle.side_parts.specs.Lent.{Side, Sides, rowSides, ofPoints, BothHeld, BothFormed, BothRowsHeld}
+use Rattle.side_parts.specs.Lent.{Side, Sides, rowsOnly, inCode, ofPoints, BothHeld, BothFormed, BothRowsHeld}
 use Rattle.answers.specs.declared.Outcome.{Outcome}
 use Rattle.answers.specs.declared.Outcome.the-variants as Out
 use Rattle.answers.specs.declared.Planned.{Planned}
@@ -31,16 +31,13 @@ use Rattle.answering.specs.declared.families.Rule.the-variants as R
 use Rattle.answering.specs.families.Codes.{ruleLabels, planRow, planSeries, CodeIn, RecordIn, CodesIn, RecordsIn}
 use Rattle.answering.specs.families.Plans.{ruleClash, ruleCodes, earlyCodes, ruleSeries, ruleOutcome, RulePlanned}
 
--- sides without rows, and sides without records
+-- sides without rows
 
 abbrev recordsOnly : Side → Side
 recordsOnly x = record { array = x .array; at = x .at; keys = []; rows = [] }
 
 abbrev labelledOnly : Sides → Sides
 labelledOnly s = record { shape = ofPoints 0; left = recordsOnly (s .left); right = recordsOnly (s .right) }
-
-abbrev rowsOnly : Sides → Sides
-rowsOnly s = rowSides (s .shape .points) (s .left .keys) (s .left .rows) (s .right .keys) (s .right .rows)
 
 -- records play no part in rows, nor rows in records
 
@@ -190,12 +187,12 @@ module _ (rule : Rule) (first second : List ℕ) (s : Sides) (held : BothHeld s)
               → RecordsPut (ruleLabels rule first second (labelledOnly s)) (take n codes) labels₀ labels bytes
               → out ≡ startingWith (gather (planRow rule (rowsOnly s) (take n codes) marks) (upTo (length (take n codes)))) out₀
               → Ran (ruleOutcome rule first second (length labels₀) (length out₀) s) labels₀ out₀ labels out
-              (Out.Answer n (record { points = s .shape .points }) bytes)
+              (Out.Answer n (inCode (s .shape)) bytes)
           run-answer bytes labels out put made =
               let here : RecordsPut (ruleLabels rule first second s) (take n codes) labels₀ labels bytes = rw (labels-same rule first second s) at put in
               let same = coded-records (ruleLabels rule first second s) (take n codes) in
               let count : length rows ≡ n = up-long 0 (length (take n codes)) ∙ front in
-              stands labels₀ out₀ labels out (Out.Answer n (record { points = s .shape .points }) bytes)
+              stands labels₀ out₀ labels out (Out.Answer n (inCode (s .shape)) bytes)
               (rw count at
               (ran-answer (s .shape) labels₀ out₀ series rows rows-few t by-number room as-asked e bytes (here .bytes ∙ ap length same) labels out
               (here .out ∙ ap (λ x. startingWith x labels₀) same)

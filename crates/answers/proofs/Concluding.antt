@@ -17,6 +17,7 @@ use Rattle.semantics.specs.Events.{Duplicate}
 use Rattle.semantics.specs.Call as Call
 use Rattle.semantics.specs.Call.{refused, answered, fit, overTags}
 use Rattle.plan.specs.Conclude.{conclude}
+use Rattle.side_parts.specs.Lent.{inCode}
 use Rattle.answers.specs.declared.Outcome.{Outcome}
 use Rattle.answers.specs.declared.Outcome.the-variants as Out
 use Rattle.answers.specs.declared.Tally.{Tally}
@@ -86,7 +87,8 @@ module _ (shape : Shape) (labels₀ out₀ : List ℕ) where
       → Ran (conclude (length labels₀) (length out₀) shape clash ss) labels₀ out₀ labels out r
   ran-without-clash clash ss labels out r h k = rw h k
 
-  pub ran-too-many : (ss : List Series) → maxSeries < length ss → Ran (fit (length labels₀) (length out₀) shape ss) labels₀ out₀ labels₀ out₀ Out.TooLarge
+  pub ran-too-many : (ss : List Series) → maxSeries < length ss
+      → Ran (fit (length labels₀) (length out₀) shape ss) labels₀ out₀ labels₀ out₀ Out.TooLarge
   unfolding fit
   ran-too-many ss h = rw (lt-ltb maxSeries (length ss) h) (record { outcome = refl; labelPart = refl; readingPart = refl })
 
@@ -94,7 +96,7 @@ module _ (shape : Shape) (labels₀ out₀ : List ℕ) where
   module _ (S : ℕ → Series) (rows : List ℕ) (few : length rows ≤ maxSeries) (t : Tally) (tally : TallyOf (λ x. S x .labels) rows t)
       (room : Room) (asked : roomNumber room ≡ roomRefusal (length rows) (shape .points) t (length labels₀) (length out₀)) where
     abbrev answer : Call.Outcome
-    answer = answered (length rows) (shape .points) (recordsOf (labels S) rows) (gather (row S) rows)
+    answer = answered (length rows) shape (recordsOf (labels S) rows) (gather (row S) rows)
 
     fits-as : fit (length labels₀) (length out₀) shape (map S rows) ≡ outcomeBy answer room
     unfolding fit
@@ -125,6 +127,6 @@ module _ (shape : Shape) (labels₀ out₀ : List ℕ) where
         → (labels out : List ℕ) → labels ≡ startingWith (recordsOf (λ x. S x .labels) rows) labels₀
         → out ≡ startingWith (gather (λ x. S x .row) rows) out₀
         → Ran (fit (length labels₀) (length out₀) shape (map S rows)) labels₀ out₀ labels out
-        (Out.Answer (length rows) (record { points = shape .points }) bytes)
+        (Out.Answer (length rows) (inCode shape) bytes)
     ran-answer h bytes k labels out a b =
         rw (fits-as, h) (record { outcome = rw k; labelPart = a; readingPart = b })

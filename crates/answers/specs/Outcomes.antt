@@ -1,4 +1,4 @@
--- The code's outcomes in 01's numbers, and what a call leaves in the output parts lent to it. Assumes nothing.
+-- The code's outcomes in the numbers of 01 and 02, and what a call leaves in the output parts lent to it. Assumes nothing.
 use Prim.Native.Nat.{ℕ}
 use mathlib.Core.Path.{_≡_}
 use mathlib.Core.List.{List, _++_}
@@ -6,11 +6,12 @@ use lib.ListN.{length, drop}
 use Rattle.semantics.specs.Call as Call
 use Rattle.semantics.specs.Call.{refused, answered}
 use Rattle.side_parts.specs.declared.Shape.{Shape}
+use Rattle.side_parts.specs.Lent.{inCode}
 use Rattle.answers.specs.declared.Told.{Told}
 use Rattle.answers.specs.declared.Told.the-variants as T
 use Rattle.answers.specs.declared.Outcome.{Outcome}
 use Rattle.answers.specs.declared.Outcome.the-variants.{Answer, BadOperator, Malformed, Cut, BadKey, Readings, Unequal, LeftTwice, RightTwice}
-use Rattle.answers.specs.declared.Outcome.the-variants.{TooLarge, TooLong}
+use Rattle.answers.specs.declared.Outcome.the-variants.{TooLarge, TooLong, BadGrid, GridsDiffer}
 
 -- an answer's series, shape and label bytes; or a refusal's number and fields
 abbrev pub answer : ℕ → Shape → ℕ → Told
@@ -32,10 +33,12 @@ told (LeftTwice kept failed) = refusal 7 kept failed
 told (RightTwice kept failed) = refusal 8 kept failed
 told TooLarge = refusal 9 0 0
 told TooLong = refusal 10 0 0
+told (BadGrid side) = refusal 11 side 0
+told GridsDiffer = refusal 12 0 0
 
 abbrev pub wanted : Call.Outcome → Told
 wanted (refused n a b) = refusal n a b
-wanted (answered n p x y) = answer n (record { points = p }) (length x)
+wanted (answered n shape x y) = answer n (inCode shape) (length x)
 
 -- 01: An answer changes only its own length at the start of each output part; what lies behind it stays.
 abbrev pub startingWith : List ℕ → List ℕ → List ℕ
@@ -44,11 +47,11 @@ startingWith x d = x ++ drop (length x) d
 -- 01: All refusals write no output.
 abbrev pub labelsAfter : Call.Outcome → List ℕ → List ℕ
 labelsAfter (refused n a b) d = d
-labelsAfter (answered n p x y) d = startingWith x d
+labelsAfter (answered n shape x y) d = startingWith x d
 
 abbrev pub readingsAfter : Call.Outcome → List ℕ → List ℕ
 readingsAfter (refused n a b) d = d
-readingsAfter (answered n p x y) d = startingWith y d
+readingsAfter (answered n shape x y) d = startingWith y d
 
 -- a call that is to come to `want` answers r, and the output parts labels₀ and out₀ hold labels and out afterwards
 pub record Ran (want : Call.Outcome) (labels₀ out₀ labels out : List ℕ) (r : Outcome) : Type 0 where

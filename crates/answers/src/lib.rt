@@ -40,9 +40,13 @@ pub enum Outcome {
     },
     TooLarge,
     TooLong,
+    BadGrid {
+        side: usize,
+    },
+    GridsDiffer,
 }
 
-// An outcome in 01's numbers.
+// An outcome in the numbers of 01 and 02.
 pub enum Told {
     Answer {
         series: usize,
@@ -90,6 +94,8 @@ pub fn told_as(x: Outcome) -> Told
         Outcome::RightTwice { kept, failed } => refusal(8, kept, failed),
         Outcome::TooLarge => refusal(9, 0, 0),
         Outcome::TooLong => refusal(10, 0, 0),
+        Outcome::BadGrid { side } => refusal(11, side, 0),
+        Outcome::GridsDiffer => refusal(12, 0, 0),
     }
 }
 

@@ -1,6 +1,7 @@
 -- What each stage of a call comes to, by what taking found. Assumes nothing.
 use Prim.Native.Nat.{ℕ, _+_, _-_, _≤_, _<_}
-use mathlib.Core.Path.{_≡_, refl, sym}
+use mathlib.Core.Path.{_≡_, refl, sym, _∙_}
+use mathlib.Core.Bool.{Bool, true, false, not}
 use mathlib.Core.List.{List, [], _∷_, _++_}
 use mathlib.Core.Logic.{inl, inr}
 use types.Run.{OneOf}
@@ -8,13 +9,14 @@ use denote.Enum.Declared.{tagOf}
 use native.Mathlib.Omega.{arith}
 use lib.ListN.{length, getD, take, drop, length-append}
 use lib.Seq.{length-take-le, take-at}
-use borrow.Author.Tests.{eq-eqb, ne-eqb}
+use lib.Dec.{eqb}
+use borrow.Author.Tests.{eq-eqb, ne-eqb, not-true, not-false}
 use Rattle.model.specs.Limits.{sizesLength}
 use Rattle.model.specs.Query as Model
 use Rattle.model.specs.Vector.{Series, Shape, Vector, takeVector, labelPart}
 use Rattle.model.specs.Laws.Vector.{taken-is}
 use Rattle.semantics.specs.Call as Call
-use Rattle.semantics.specs.Call.{running, onVector, call}
+use Rattle.semantics.specs.Call.{running, sameGrid, onVector, call}
 use Rattle.query.specs.declared.Query.{Query}
 use Rattle.query.specs.declared.Request.{Request}
 use Rattle.query.specs.declared.Request.the-variants as R
@@ -32,7 +34,8 @@ use Rattle.answers.specs.Outcomes.{Ran, told, refusal}
 use Rattle.operator.specs.Kinds.{kindOf}
 use Rattle.labels.specs.Names.{namesOf}
 use Rattle.labels.specs.Matchings.{matchingOf}
-use Rattle.side_parts.specs.Lent.{Sides, BothHeld}
+use Rattle.side_parts.specs.declared.Shape as Code
+use Rattle.side_parts.specs.Lent.{Sides, shapeOf, BothHeld}
 use Rattle.keyed_sides.specs.Keyed.{dropsMissing, KeysKept, SidesKeyed, withKeys, kept-keyed-by}
 use Rattle.keyed_sides.specs.TakenSides.{TakenSide, lentVector, Took}
 use Rattle.binop_vector_vector.specs.dispatch.Runs.{Asked, ranTaken}
@@ -50,12 +53,16 @@ module _ (side : ℕ) (t : Taken) where
   pub fault-readings : t ≡ T.Readings → told (Out.Readings side) ≡ refusal (takenNumber t) side (takenPlace t)
   fault-readings e = rw e
 
+  pub fault-grid : t ≡ T.BadGrid → told (Out.BadGrid side) ≡ refusal (takenNumber t) side (takenPlace t)
+  fault-grid e = rw e
+
 -- a vector is not refused
 pub fault-none : (t : Taken) {A : Type 0} → 0 < takenNumber t → tagOf taken-type t ≡ 0 → A
 fault-none (T.Vector n shape) h e = absurd (omega (arith, h))
 fault-none (T.Cut i) h e = absurd (omega (arith, e))
 fault-none (T.BadKey i) h e = absurd (omega (arith, e))
 fault-none T.Readings h e = absurd (omega (arith, e))
+fault-none T.BadGrid h e = absurd (omega (arith, e))
 
 -- `refusal_of`
 
@@ -112,16 +119,18 @@ module _ (s : List ℕ) (r : Request) (h : TakenAs s (Model.takeQuery s) r) wher
 
 -- a side that is refused, or taken, and what follows
 
-pub taken-number : (t : Taken) → OneOf (1 ∷ 2 ∷ 3 ∷ []) (tagOf taken-type t) → 0 < takenNumber t
+pub taken-number : (t : Taken) → OneOf (1 ∷ 2 ∷ 3 ∷ 4 ∷ []) (tagOf taken-type t) → 0 < takenNumber t
 taken-number (T.Vector n shape) h = absurd (not-zero h)
   where
-    not-zero : OneOf (1 ∷ 2 ∷ 3 ∷ []) 0 → ⊥
+    not-zero : OneOf (1 ∷ 2 ∷ 3 ∷ 4 ∷ []) 0 → ⊥
     not-zero (inl e) = omega (arith, e)
     not-zero (inr (inl e)) = omega (arith, e)
-    not-zero (inr (inr e)) = omega (arith, e)
+    not-zero (inr (inr (inl e))) = omega (arith, e)
+    not-zero (inr (inr (inr e))) = omega (arith, e)
 taken-number (T.Cut i) h = omega arith
 taken-number (T.BadKey i) h = omega arith
 taken-number T.Readings h = omega arith
+taken-number T.BadGrid h = omega arith
 
 module _ (side : ℕ) (s x : List ℕ) (f : Vector → Call.Outcome) (labels₀ out₀ : List ℕ) where
   pub ran-fault : (before after : List ℕ) (t : Taken) → TakenInto s x before t after → (y : Outcome) → 0 < takenNumber t
@@ -134,7 +143,16 @@ module _ (side : ℕ) (s x : List ℕ) (f : Vector → Call.Outcome) (labels₀ 
       → Ran (onVector (takeVector side s x) f) labels₀ out₀ d o y
   ran-taken after n shape took d o y k = rw (took .vector) k
 
--- 01: 6, the sides' p differ
+-- `grids_differ`
+module _ (left right : Code.Shape) where
+  pub starts-differ : (left .start ≡ right .start → ⊥) → true ≡ not (sameGrid (shapeOf left) (shapeOf right))
+  starts-differ h = rw (ne-eqb (left .start) (right .start) h)
+
+  pub steps-differ : left .start ≡ right .start
+      → not (eqb (left .step) (right .step)) ≡ not (sameGrid (shapeOf left) (shapeOf right))
+  steps-differ h = rw (eq-eqb (left .start) (right .start) h)
+
+-- 01: 6, the sides' p differ; 02: 12, the sides' grids differ, .. after number 6
 module _ (q : Model.Query) (shape : Shape) (array at rows : List ℕ) (other : Shape) (array′ at′ rows′ labels₀ out₀ : List ℕ) where
   abbrev runs : Call.Outcome
   runs = running (length labels₀) (length out₀) q (lentVector shape array at rows) (lentVector other array′ at′ rows′)
@@ -143,10 +161,15 @@ module _ (q : Model.Query) (shape : Shape) (array at rows : List ℕ) (other : S
   unfolding running
   ran-unequal h = rw (ne-eqb (shape .points) (other .points) (λ e. h (sym e))) (record { outcome = refl; labelPart = refl; readingPart = refl })
 
-  ran-equal : other .points ≡ shape .points → (d o : List ℕ) (y : Outcome)
+  ran-differing : other .points ≡ shape .points → sameGrid shape other ≡ false → Ran runs labels₀ out₀ labels₀ out₀ Out.GridsDiffer
+  unfolding running
+  ran-differing e g =
+      rw (eq-eqb (shape .points) (other .points) (sym e), g) (record { outcome = refl; labelPart = refl; readingPart = refl })
+
+  ran-equal : other .points ≡ shape .points → sameGrid shape other ≡ true → (d o : List ℕ) (y : Outcome)
       → Ran (ranTaken q shape array at rows array′ at′ rows′ (length labels₀) (length out₀)) labels₀ out₀ d o y → Ran runs labels₀ out₀ d o y
   unfolding running
-  ran-equal e d o y k = rw (e, eq-eqb (shape .points) (shape .points) refl) k
+  ran-equal e g d o y k = rw (e, eq-eqb (shape .points) (shape .points) refl, g) k
 
 -- both sides taken
 module _ (s x after : List ℕ) (n : ℕ) (shape : Shape) (l : Took 0 s x after n shape)
@@ -164,21 +187,32 @@ module _ (s x after : List ℕ) (n : ℕ) (shape : Shape) (l : Took 0 s x after 
       ran-taken 0 s x (λ v. rightStage q v s′ x′ (length labels₀) (length out₀)) labels₀ out₀ after n shape l d o y
       (ran-taken 1 s′ x′ (λ v. running (length labels₀) (length out₀) q lefts v) labels₀ out₀ after′ n′ other r d o y k)
 
-  pub ran-apart : (other .points ≡ shape .points → ⊥) → Ran (leftStage q s x s′ x′ (length labels₀) (length out₀)) labels₀ out₀ labels₀ out₀ Out.Unequal
+  pub ran-apart : (other .points ≡ shape .points → ⊥)
+      → Ran (leftStage q s x s′ x′ (length labels₀) (length out₀)) labels₀ out₀ labels₀ out₀ Out.Unequal
   ran-apart h =
       ran-both labels₀ out₀ Out.Unequal
       (ran-unequal q shape (take (length s - sizesLength) (drop sizesLength s)) (take (n + 1) after) x other
       (take (length s′ - sizesLength) (drop sizesLength s′)) (take (n′ + 1) after′) x′ labels₀ out₀ h)
 
-  pub ran-alike : other .points ≡ shape .points → (d o : List ℕ) (y : Outcome)
-      → Ran (ranTaken q shape (take (length s - sizesLength) (drop sizesLength s)) (take (n + 1) after) x
-      (take (length s′ - sizesLength) (drop sizesLength s′)) (take (n′ + 1) after′) x′
-      (length labels₀) (length out₀)) labels₀ out₀ d o y
-      → Ran (leftStage q s x s′ x′ (length labels₀) (length out₀)) labels₀ out₀ d o y
-  ran-alike h d o y k =
-      ran-both d o y
-      (ran-equal q shape (take (length s - sizesLength) (drop sizesLength s)) (take (n + 1) after) x other
-      (take (length s′ - sizesLength) (drop sizesLength s′)) (take (n′ + 1) after′) x′ labels₀ out₀ h d o y k)
+  module _ (h : other .points ≡ shape .points) (b : Bool) (tested : b ≡ not (sameGrid shape other)) where
+    pub ran-on-two-grids : b ≡ true
+        → Ran (leftStage q s x s′ x′ (length labels₀) (length out₀)) labels₀ out₀ labels₀ out₀ Out.GridsDiffer
+    ran-on-two-grids e =
+        ran-both labels₀ out₀ Out.GridsDiffer
+        (ran-differing q shape (take (length s - sizesLength) (drop sizesLength s)) (take (n + 1) after) x other
+        (take (length s′ - sizesLength) (drop sizesLength s′)) (take (n′ + 1) after′) x′ labels₀ out₀ h
+        (not-true (sameGrid shape other) (sym tested ∙ e)))
+
+    pub ran-alike : b ≡ false → (d o : List ℕ) (y : Outcome)
+        → Ran (ranTaken q shape (take (length s - sizesLength) (drop sizesLength s)) (take (n + 1) after) x
+        (take (length s′ - sizesLength) (drop sizesLength s′)) (take (n′ + 1) after′) x′
+        (length labels₀) (length out₀)) labels₀ out₀ d o y
+        → Ran (leftStage q s x s′ x′ (length labels₀) (length out₀)) labels₀ out₀ d o y
+    ran-alike e d o y k =
+        ran-both d o y
+        (ran-equal q shape (take (length s - sizesLength) (drop sizesLength s)) (take (n + 1) after) x other
+        (take (length s′ - sizesLength) (drop sizesLength s′)) (take (n′ + 1) after′) x′ labels₀ out₀ h
+        (not-false (sameGrid shape other) (sym tested ∙ e)) d o y k)
 
 -- on the points of the other side
 pub held-alike : (p points : ℕ) (array at rows : List ℕ) → points ≡ p → TakenSide points array at rows → TakenSide p array at rows

@@ -9,13 +9,14 @@ use query::Request;
 use side_parts::Shape;
 use timeseries::Taken;
 ghost use mathlib.Core.Path.{_≡_};
+ghost use mathlib.Core.Bool.{not};
 ghost use Prim.Native.Nat.{_<_};
 ghost use lib.ListN.{length};
 ghost use Rattle.operator.specs.Kinds.{kindOf};
 ghost use Rattle.labels.specs.Names.{namesOf};
 ghost use Rattle.labels.specs.Matchings.{matchingOf};
 ghost use Rattle.query.specs.Queries.{queryOf, requestNumber};
-ghost use Rattle.semantics.specs.Call.{call};
+ghost use Rattle.semantics.specs.Call.{call, sameGrid};
 ghost use Rattle.side_parts.specs.Lent.{Sides, lent, BothHeld, shapeOf};
 ghost use Rattle.timeseries.specs.Takes.{takenNumber, takenPlace};
 ghost use Rattle.answers.specs.Outcomes.{Ran, told, refusal};
@@ -44,11 +45,22 @@ fn fault_of(side: usize, taken: Taken) -> Outcome
         Taken::Cut(place) => Outcome::Cut { side, place },
         Taken::BadKey(place) => Outcome::BadKey { side, place },
         Taken::Readings => Outcome::Readings { side },
+        Taken::BadGrid => Outcome::BadGrid { side },
         Taken::Vector {
             series: _,
             shape: _,
         } => Outcome::Unequal,
     }
+}
+
+// Whether two sides lie on different grids.
+fn grids_differ(left: Shape, right: Shape) -> bool
+    ensures { λ r. ⌜ r ≡ not (sameGrid (shapeOf left) (shapeOf right)) ⌝ }
+{
+    if left.start != right.start {
+        return true;
+    }
+    left.step != right.step
 }
 
 // Numbers the keys of both sides' series that take part under an operator.
@@ -167,6 +179,9 @@ pub fn exec_binop<'a>(
     };
     if other.points != shape.points {
         return Outcome::Unequal;
+    }
+    if grids_differ(shape, other) {
+        return Outcome::GridsDiffer;
     }
     let e = n + 1;
     let f = m + 1;

@@ -56,7 +56,6 @@ pub fn plan_join(
     let many = keys[0];
     let one = keys[1];
     let count = one.len();
-    let p = shape.points;
     let mut ends = [0usize; 512];
     key_ends::side_ends(one, many, &mut ends);
     let mut leads = [0usize; 512];
@@ -92,7 +91,7 @@ pub fn plan_join(
                 rows[1],
                 &leads[..count],
                 &lasts,
-                &mut work[..p],
+                &mut work[..shape.points],
                 codes,
                 marks,
             ) {

@@ -1,4 +1,4 @@
--- 01's limits. Assumes nothing.
+-- 01's limits, and 02's. Assumes nothing.
 use Prim.Native.Nat.{ℕ}
 
 abbrev pub maxSeries : ℕ
@@ -22,4 +22,11 @@ maxLabelBytes = 65535
 
 -- the bytes of a vector's sizes, at the start of its label part
 abbrev pub sizesLength : ℕ
-sizesLength = 6
+sizesLength = 18
+
+-- 02: a start in milliseconds (0 to 2 to the 52nd) and a step (1 to 86,400,000)
+abbrev pub maxStart : ℕ
+maxStart = 4503599627370496
+
+abbrev pub maxStep : ℕ
+maxStep = 86400000

@@ -1,4 +1,5 @@
--- An outcome as six numbers: a refusal's number and fields, then an answer's series, points and label bytes; the others are 0. Assumes nothing.
+-- An outcome as eight numbers: a refusal's number and fields, then an answer's series, points, start, step and label bytes; the others are 0.
+-- Assumes nothing.
 use Prim.Native.Nat.{ℕ}
 use mathlib.Core.Path.{_≡_}
 use mathlib.Core.List.{List, [], _∷_}
@@ -9,10 +10,10 @@ use Rattle.answers.specs.declared.Told.the-variants.{Answer, Refusal}
 use Rattle.answers.specs.Outcomes.{wanted, labelsAfter, readingsAfter}
 
 abbrev pub numbersOf : Told → List ℕ
-numbersOf (Answer series shape bytes) = 0 ∷ 0 ∷ 0 ∷ series ∷ shape .points ∷ bytes ∷ []
-numbersOf (Refusal number first second) = number ∷ first ∷ second ∷ 0 ∷ 0 ∷ 0 ∷ []
+numbersOf (Answer series shape bytes) = 0 ∷ 0 ∷ 0 ∷ series ∷ shape .points ∷ shape .start ∷ shape .step ∷ bytes ∷ []
+numbersOf (Refusal number first second) = number ∷ first ∷ second ∷ 0 ∷ 0 ∷ 0 ∷ 0 ∷ 0 ∷ []
 
--- a call that is to come to `want` stores its six numbers in the result, which has six places, and leaves in the output parts what `want` says
+-- a call that is to come to `want` stores its eight numbers in the result, which has eight places, and leaves in the output parts what `want` says
 pub record Reported (want : Call.Outcome) (labels₀ out₀ labels out before result : List ℕ) : Type 0 where
   pub numbers : result ≡ sets before 0 (numbersOf (wanted want))
   pub labelPart : labels ≡ labelsAfter want labels₀

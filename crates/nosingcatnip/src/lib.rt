@@ -1,6 +1,7 @@
 // The library for callers in C and Rust: one function on numbers and slices.
 use answers::Outcome;
 use answers::Told;
+use side_parts::Shape;
 ghost use mathlib.Core.Path.{_≡_};
 ghost use mathlib.Core.List.{[], _∷_};
 ghost use lib.ListN.{length};
@@ -9,8 +10,16 @@ ghost use Rattle.semantics.specs.Call.{call};
 ghost use Rattle.answers.specs.Outcomes.{told};
 ghost use Rattle.nosingcatnip.specs.Reports.{numbersOf, Reported};
 
-// What an outcome is in six numbers: number and fields of a refusal, then series, points and label bytes of an answer.
-fn report(outcome: Outcome, result: &mut [u64; 6])
+// What is told of a refusal's shape.
+const NONE: Shape = Shape {
+    points: 0,
+    start: 0,
+    step: 0,
+};
+
+// What an outcome is in eight numbers: number and fields of a refusal, then series, points, start, step and label bytes of
+// an answer.
+fn report(outcome: Outcome, result: &mut [u64; 8])
     ensures { λ _. ⌜ now (result .exit) ≡ sets (now (result .entry)) 0 (numbersOf (told outcome)) ⌝ }
 {
     match answers::told_as(outcome) {
@@ -18,35 +27,40 @@ fn report(outcome: Outcome, result: &mut [u64; 6])
             series,
             shape,
             bytes,
-        } => put(result, 0, 0, 0, series, shape.points, bytes),
+        } => put(result, 0, 0, 0, series, shape, bytes),
         Told::Refusal {
             number,
             first,
             second,
-        } => put(result, number, first, second, 0, 0, 0),
+        } => put(result, number, first, second, 0, NONE, 0),
     }
 }
 
 fn put(
-    result: &mut [u64; 6],
+    result: &mut [u64; 8],
     number: usize,
     first: usize,
     second: usize,
     series: usize,
-    points: usize,
+    shape: Shape,
     bytes: usize,
 )
-    ensures { λ _. ⌜ now (result .exit) ≡ sets (now (result .entry)) 0 (number ∷ first ∷ second ∷ series ∷ points ∷ bytes ∷ []) ⌝ }
+    ensures { λ _. ⌜
+        now (result .exit) ≡ sets (now (result .entry)) 0
+        (number ∷ first ∷ second ∷ series ∷ shape .points ∷ shape .start ∷ shape .step ∷ bytes ∷ [])
+        ⌝ }
 {
     result[0] = number as u64;
     result[1] = first as u64;
     result[2] = second as u64;
     result[3] = series as u64;
-    result[4] = points as u64;
-    result[5] = bytes as u64;
+    result[4] = shape.points as u64;
+    result[5] = shape.start as u64;
+    result[6] = shape.step as u64;
+    result[7] = bytes as u64;
 }
 
-// Runs a query over two vectors; all six numbers of the result are written.
+// Runs a query over two vectors; all eight numbers of the result are written.
 #[no_mangle]
 pub extern "C" fn nosingcatnip_exec_binop<'a>(
     query: &[u8],
@@ -56,7 +70,7 @@ pub extern "C" fn nosingcatnip_exec_binop<'a>(
     right: &'a [u64],
     out_labels: &mut [u8],
     out: &mut [u64],
-    result: &mut [u64; 6],
+    result: &mut [u64; 8],
 )
     ensures { λ _. ⌜
         Reported

@@ -46,7 +46,13 @@ impl Operator {
     pub const MAX_LABEL_BYTES: usize = 65535;
 
     // The bytes of a vector's sizes, at the start of its label part.
-    pub const SIZES_LENGTH: usize = 6;
+    pub const SIZES_LENGTH: usize = 18;
+
+    // The latest start of a grid, in milliseconds: 2 to the 52nd.
+    pub const MAX_START: usize = 4503599627370496;
+
+    // The longest step of a grid, in milliseconds: a day.
+    pub const MAX_STEP: usize = 86400000;
 
     pub fn from_byte(b: u8) -> Coded
         ensures { λ r. ⌜ r ≡ codedOf b ⌝ }

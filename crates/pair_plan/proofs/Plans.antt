@@ -5,7 +5,7 @@ use mathlib.Core.Option.{Option}
 use mathlib.Core.List.{List, [], _∷_}
 use native.Mathlib.Omega.{arith}
 use Rattle.plan.specs.Pairs.{pairsClash}
-use Rattle.side_parts.specs.Lent.{Sides, rowSides}
+use Rattle.side_parts.specs.Lent.{Sides, rowsOnly}
 use Rattle.semantics.specs.Events.{Duplicate}
 use Rattle.semantics.specs.Binop.{allowedOverlaps}
 use Rattle.query.specs.declared.Query.{Query}
@@ -41,7 +41,7 @@ module _ (allowance : ℕ) (s : Sides) (x : Checked) (found : clashIn x ≡ pair
 -- records play no part in a clash
 pub clash-unlabelled : (allowance : ℕ) (s : Sides) (i : ℕ) (rest : List ℕ)
     → pairsClash allowance
-    (rowSides (s .shape .points) (s .left .keys) (s .left .rows) (s .right .keys) (s .right .rows)) i rest
+    (rowsOnly s) i rest
     ≡ pairsClash allowance s i rest
 unfolding pairsClash
 clash-unlabelled allowance s i [] = refl

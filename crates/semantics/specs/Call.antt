@@ -1,6 +1,6 @@
 -- The meaning of a call: from bytes and readings to an answer or a refusal. Assumes nothing.
 use Prim.Native.Nat.{ℕ, _*_}
-use mathlib.Core.Bool.{Bool, false, _||_, cond}
+use mathlib.Core.Bool.{Bool, false, _&&_, _||_, cond}
 use mathlib.Core.List.{List, [], _∷_, map}
 use lib.Dec.{ltb, eqb}
 use lib.ListN.{length}
@@ -15,7 +15,7 @@ use Rattle.semantics.specs.Binop.{ruleOf, look}
 -- 01: A refusal has its number and two fields, 0 if not named.
 pub data Outcome : Type 0 where
   refused : ℕ → ℕ → ℕ → Outcome  -- number, first field, second field
-  answered : ℕ → ℕ → List ℕ → List ℕ → Outcome  -- series, points, label bytes, readings
+  answered : ℕ → Shape → List ℕ → List ℕ → Outcome  -- series, points and grid, label bytes, readings
 
 -- the ranked answer series of a query over two sides, or its first duplicate
 unfoldable pub verdict : Query → List Series → List Series → Verdict
@@ -38,7 +38,7 @@ unfoldable pub fit : ℕ → ℕ → Shape → List Series → Outcome
 fit labelRoom room shape bs =
     cond (overLimits bs)
     (refused 9 0 0)
-    (cond (overRoom labelRoom room shape bs) (refused 10 0 0) (answered (length bs) (shape .points) (labelBytes bs) (readingsOf bs)))
+    (cond (overRoom labelRoom room shape bs) (refused 10 0 0) (answered (length bs) shape (labelBytes bs) (readingsOf bs)))
 
 -- 01: 7 left or 8 right duplicate
 abbrev pub duplicateNumber : Side → ℕ
@@ -52,14 +52,19 @@ abbrev pub concluded : ℕ → ℕ → Shape → Verdict → Outcome
 concluded labelRoom room shape (answer l) = fit labelRoom room shape (map (λ e. e .what) l)
 concluded labelRoom room shape (duplicate x) = told x
 
--- one test of two shapes
-abbrev pub sameShape : Shape → Shape → Bool
-sameShape s t = eqb (s .points) (t .points)
+abbrev pub samePoints : Shape → Shape → Bool
+samePoints s t = eqb (s .points) (t .points)
+
+abbrev pub sameGrid : Shape → Shape → Bool
+sameGrid s t = eqb (s .start) (t .start) && eqb (s .step) (t .step)
 
 -- 01: 6, the sides' p differ, empty sides included; then 7 or 8
+-- 02: 12, the sides' grids differ, empty sides included, after number 6. The answer carries the grid of its sides.
 unfoldable pub running : ℕ → ℕ → Query → Vector → Vector → Outcome
 running labelRoom room q l r =
-    cond (sameShape (l .shape) (r .shape)) (concluded labelRoom room (l .shape) (verdict q (l .series) (r .series))) (refused 6 0 0)
+    cond (samePoints (l .shape) (r .shape))
+    (cond (sameGrid (l .shape) (r .shape)) (concluded labelRoom room (l .shape) (verdict q (l .series) (r .series))) (refused 12 0 0))
+    (refused 6 0 0)
 
 abbrev pub onVector : TakenVector → (Vector → Outcome) → Outcome
 onVector (vector v) f = f v

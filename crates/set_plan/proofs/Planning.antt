@@ -11,21 +11,13 @@ use Rattle.operator.specs.declared.Operator.{Operator}
 use Rattle.operator.specs.Kinds.{kindOf}
 use Rattle.model.specs.Lists.{isEmpty}
 use Rattle.plan.specs.Sets.{SetWork, isScalar, workBy, workFor, leftsFrom}
-use Rattle.side_parts.specs.Lent.{Sides, BothHeld, sideLabels}
+use Rattle.side_parts.specs.Lent.{Sides, rowsOnly, BothHeld, sideLabels}
 use Rattle.index_lists.specs.Places.{NotedAll}
 use Rattle.set_plan.specs.declared.set_operators.SetWork as Code
 use Rattle.set_plan.specs.set_operators.Works.{meantWork}
 use Rattle.set_plan.specs.Codes.{setCode, setCodes}
 use Rattle.set_plan.specs.set_listing.Lists.{SetHeld}
 use Rattle.set_plan.proofs.Coding.{set-held}
-
--- both sides without their records
-abbrev rowsOnly : Sides → Sides
-rowsOnly s = record {
-  shape = s .shape;
-  left = record { array = []; at = []; keys = s .left .keys; rows = s .left .rows };
-  right = record { array = []; at = []; keys = s .right .keys; rows = s .right .rows };
-}
 
 module _ (w : SetWork) (s : Sides) where
   lefts-alone : (i : ℕ) (rest : List ℕ) → leftsFrom w (rowsOnly s) i rest ≡ leftsFrom w s i rest

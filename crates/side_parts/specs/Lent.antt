@@ -53,11 +53,15 @@ sides shape arrays at keys rows = record { shape = shape; left = sideAt 0 arrays
 
 -- the code's shape
 abbrev pub shapeOf : Code.Shape → Shape
-shapeOf x = record { points = x .points }
+shapeOf x = record { points = x .points; start = x .start; step = x .step }
 
--- the shape of rows of p readings
+-- a shape as the code has it
+abbrev pub inCode : Shape → Code.Shape
+inCode x = record { points = x .points; start = x .start; step = x .step }
+
+-- the shape of rows of p readings, where nothing turns on their grid
 abbrev pub ofPoints : ℕ → Shape
-ofPoints p = record { points = p }
+ofPoints p = record { points = p; start = 0; step = 0 }
 
 -- keys and rows alone, of the left side and of the right: sides without records
 abbrev pub rowSides : ℕ → List ℕ → List ℕ → List ℕ → List ℕ → Sides
@@ -66,6 +70,9 @@ rowSides p keys rows keys′ rows′ = record {
   left = record { array = []; at = []; keys = keys; rows = rows };
   right = record { array = []; at = []; keys = keys′; rows = rows′ };
 }
+
+abbrev pub rowsOnly : Sides → Sides
+rowsOnly s = rowSides (s .shape .points) (s .left .keys) (s .left .rows) (s .right .keys) (s .right .rows)
 
 -- as they are lent
 abbrev pub unlabelled : ℕ → Slices → Slices → Sides

@@ -4,9 +4,11 @@ ghost use Prim.Native.Nat.{_+_, _-_, _*_, _≤_, _<_};
 ghost use lib.ListN.{length};
 ghost use Rattle.side_parts.specs.Sides.{recordAt, rowAt, Positions};
 
-// The shape that both sides of a call and its answer have.
+// The shape that both sides of a call and its answer have: so many points, and the grid of their times in milliseconds.
 pub struct Shape {
     pub points: usize,
+    pub start: usize,
+    pub step: usize,
 }
 
 // The record of series i.

@@ -114,6 +114,7 @@ fn take(labels: &[u8], at: &mut [usize; 513]) -> usize
         Taken::Cut(place) => refused(3, place),
         Taken::BadKey(place) => refused(4, place),
         Taken::Readings => refused(5, 0),
+        Taken::BadGrid => refused(11, 0),
         Taken::Vector { series, shape } => series + 1,
     }
 }

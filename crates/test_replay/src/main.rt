@@ -26,18 +26,6 @@ fn take_readings(bytes: &[u8], rows: &mut [u64]) -> usize
     i
 }
 
-// Whether the result has the six numbers of a case's outcome.
-fn holds_numbers(result: &[u64; 6], case: &[u8]) -> bool {
-    let mut i: usize = 0;
-    while i < 6 {
-        if result[i] != number_at(case, 4 + 2 * i) as u64 {
-            return false;
-        }
-        i += 1;
-    }
-    true
-}
-
 // What the output parts are filled with.
 const FILL_BYTE: u8 = 187;
 
@@ -53,6 +41,18 @@ fn reading_or_fill(want: &[u8], i: usize) -> u64 {
     } else {
         FILL_READING
     }
+}
+
+// Whether the result has the eight numbers wanted.
+fn holds_numbers(result: &[u64; 8], want: &[u8]) -> bool {
+    let mut i: usize = 0;
+    while i < 8 {
+        if result[i] != reading_or_fill(want, i) {
+            return false;
+        }
+        i += 1;
+    }
+    true
 }
 
 // Whether a label part holds the bytes wanted, and behind them the fill.
@@ -92,7 +92,7 @@ fn comes_to<'a>(
 ) -> bool {
     let mut labels = [FILL_BYTE; 65535];
     let mut out = [FILL_READING; 8192];
-    let mut result = [FILL_READING; 6];
+    let mut result = [FILL_READING; 8];
     let n = number_at(case, 0);
     let m = number_at(case, 2);
     if 8192 < m {
@@ -108,7 +108,7 @@ fn comes_to<'a>(
         &mut out[..m],
         &mut result,
     );
-    holds_numbers(&result, case)
+    holds_numbers(&result, part_at(case, 4))
         && holds_labels(&labels, want_labels)
         && holds_readings(&out, want_readings)
 }
@@ -140,10 +140,11 @@ fn agrees<'a>(
     )
 }
 
-// Whether a case agrees: its parts stand behind eight numbers.
+// Whether a case agrees: behind the rooms and the eight numbers of its outcome stand its parts.
 fn try_case(case: &[u8]) -> bool {
-    let query = part_at(case, 16);
-    let left_at = 18 + query.len();
+    let query_at = 6 + part_at(case, 4).len();
+    let query = part_at(case, query_at);
+    let left_at = query_at + 2 + query.len();
     let left_labels = part_at(case, left_at);
     let left_rows_at = left_at + 2 + left_labels.len();
     let left = part_at(case, left_rows_at);
@@ -224,7 +225,7 @@ fn run(s: &[u8]) {
 }
 
 fn main() {
-    let mut input = [0u8; 262144];
+    let mut input = [0u8; 524288];
     let n = io::read_full(STDIN_FILENO, &mut input);
     run(&input[..n]);
 }

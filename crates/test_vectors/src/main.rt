@@ -14,6 +14,8 @@ fn print_taken(t: Taken) {
             print(b"vector");
             print_number(series);
             print_number(shape.points);
+            print_number(shape.start);
+            print_number(shape.step);
         }
         Taken::Cut(i) => {
             print(b"3");
@@ -24,6 +26,7 @@ fn print_taken(t: Taken) {
             print_number(i);
         }
         Taken::Readings => print(b"5 0"),
+        Taken::BadGrid => print(b"11 0"),
     }
 }
 

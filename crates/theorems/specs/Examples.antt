@@ -8,7 +8,7 @@ use Rattle.model.specs.Query.{Side, left, right}
 use Rattle.model.specs.Vector.{Series}
 use Rattle.semantics.specs.Call.{Outcome, refused}
 use Rattle.semantics.specs.Computing.{computing}
-use Rattle.model.specs.Examples.Numbers.{five, one, three, two}
+use Rattle.model.specs.Examples.Numbers.{five, one, three, two, minutely}
 use Rattle.semantics.specs.Examples.Notation.{N, press, A, B, series, plainly, on, gives}
 use Rattle.theorems.specs.Claims.Dealing.{Deal, secondPile, wholePlaces}
 use Rattle.theorems.specs.Claims.Partition.{pileCall}
@@ -16,8 +16,7 @@ use Rattle.theorems.specs.Claims.Partition.{pileCall}
 -- the whole call and the two piles' calls, with `vecop`'s output parts
 abbrev calls : List ℕ → ℕ → Deal → List Series → List Series → List Outcome
 calls q points deal ls rs =
-    on q points ls rs ∷ pileCall q (record { points = points }) deal ls rs 65535 8192 ∷ pileCall q (record { points = points })
-    (secondPile deal) ls rs 65535 8192 ∷ []
+    on q points ls rs ∷ pileCall q (minutely points) deal ls rs 65535 8192 ∷ pileCall q (minutely points) (secondPile deal) ls rs 65535 8192 ∷ []
 
 abbrev sideOf : {X : Type 0} → Side → X → X → X
 sideOf left x y = x
@@ -36,7 +35,8 @@ b row = series [] (press B ∷ []) row
 -- Press A goes to the second pile: its left series, at the places 1 and 2 of the whole call, stand there at 0 and 1.
 whole-duplicate :
     calls (plainly 0) 3 (firsts (true ∷ false ∷ false ∷ []) (false ∷ true ∷ []))
-    (b (one ∷ one ∷ one ∷ []) ∷ a (one ∷ two ∷ three ∷ []) ∷ a (three ∷ two ∷ one ∷ []) ∷ []) (a (one ∷ one ∷ one ∷ []) ∷ b (one ∷ one ∷ one ∷ []) ∷ [])
+    (b (one ∷ one ∷ one ∷ []) ∷ a (one ∷ two ∷ three ∷ []) ∷ a (three ∷ two ∷ one ∷ []) ∷ [])
+    (a (one ∷ one ∷ one ∷ []) ∷ b (one ∷ one ∷ one ∷ []) ∷ [])
     ≡ refused 7 2 1 ∷ gives 3 (b (two ∷ two ∷ two ∷ []) ∷ []) ∷ refused 7 1 0 ∷ []
 unfolding computing
 whole-duplicate = refl

@@ -21,8 +21,9 @@ use Rattle.semantics.specs.Call.{Outcome, refused, call, concluded, fit}
 use Rattle.theorems.specs.Claims.Dealing.{Rising, Renumber, movedRanked, movedRank, movedVerdict, Deal, secondPile, pick, pile, wholePlaces}
 use Rattle.theorems.specs.Claims.Dealing.{weave, mergedVerdict}
 use Rattle.theorems.specs.Claims.Partition.{isRefused, refusedOtherwise, Splits, Partition, Sides, HasSides}
-use Rattle.theorems.specs.Claims.Outcomes.{Taken, written, seriesIn, OutcomeOf, number-1, number-2, left-3-to-5, right-3-to-5, number-6}
-use Rattle.theorems.specs.Claims.Outcomes.{number-7-or-8, number-9, number-10, vector-answered}
+use Rattle.theorems.specs.Claims.Outcomes.{Taken, written, seriesIn, OutcomeOf, number-1, number-2, left-3-to-5}
+use Rattle.theorems.specs.Claims.Outcomes.{right-3-to-5, left-11, right-11, number-6, number-12, number-7-or-8}
+use Rattle.theorems.specs.Claims.Outcomes.{number-9, number-10, vector-answered}
 use Rattle.theorems.specs.Outcomes.{every-outcome, taken-call}
 use Rattle.theorems.specs.Dealing.Verdicts.{pileVerdict, verdicts, verdict-rising}
 use Rattle.theorems.specs.Dealing.Fitting.{Fits, fits-fit, Way, fine, too-big, no-room, fit-way, length-weave, bytes-weave, fits-weave}
@@ -83,7 +84,8 @@ module _ (a b : ℕ) (shape : Shape) (ρ₁ ρ₂ : Renumber) where
   one-refused true = refl
   one-refused false = refl
 
-  splits : (v w : Verdict) → ((k : List (Ranked Rank Series)) → mergedVerdict (movedVerdict ρ₁ v) (movedVerdict ρ₂ w) ≡ answer k → Rising rankBefore k)
+  splits : (v w : Verdict)
+      → ((k : List (Ranked Rank Series)) → mergedVerdict (movedVerdict ρ₁ v) (movedVerdict ρ₂ w) ≡ answer k → Rising rankBefore k)
       → refusedOtherwise (concluded a b shape (mergedVerdict (movedVerdict ρ₁ v) (movedVerdict ρ₂ w))) ≡ false
       → Claim v w (concluded a b shape (mergedVerdict (movedVerdict ρ₁ v) (movedVerdict ρ₂ w)))
   splits (answer l) (answer m) up r = fitted l m (up _ refl) (fit-way a b shape (seriesIn (merged l m))) r
@@ -142,6 +144,7 @@ pick-valid shape d bs v =
     record {
       few = omega (arith, pick-shorter d bs, v .few);
       points = v .points;
+      grid = v .grid;
       bytes = omega (arith, pick-bytes d bs, v .bytes);
       series = All-pick (GoodSeries (shape .points)) d bs (v .series);
     }
@@ -172,10 +175,11 @@ partition s ll lr rl rr bl wl br wr q shape ls rs t deal d a b r =
       taken-call s _ _ _ _ q shape _ _ (pile-taken s ll lr rl rr bl wl br wr q shape ls rs t deal) a b,
       taken-call s _ _ _ _ q shape _ _ (pile-taken s ll lr rl rr bl wl br wr q shape ls rs t (secondPile deal)) a b,
     )
-    (splits a b shape (wholePlaces deal ls rs) (wholePlaces (secondPile deal) ls rs) (pileVerdict q deal ls rs) (pileVerdict q (secondPile deal) ls rs)
+    (splits a b shape (wholePlaces deal ls rs) (wholePlaces (secondPile deal) ls rs) (pileVerdict q deal ls rs)
+    (pileVerdict q (secondPile deal) ls rs)
     (λ k e. verdict-rising q ls rs k (verdicts q deal ls rs d ∙ e)) (rw whole at r))
 
--- a call that is not refused by a number from 1 to 6 has sides
+-- a call that is not refused by a number from 1 to 6, by 11 or by 12 has sides
 
 otherwise : {X : Type 0} (n i j : ℕ) → n ≤ 6 → refusedOtherwise (refused n i j) ≡ false → X
 otherwise n i j h e = never-so (sym (rw (unequal n 7 (omega (arith, h)), unequal n 8 (omega (arith, h)))) ∙ e)
@@ -188,7 +192,10 @@ sides s ll lr rl rr a b o (number-1 e) r = never-so r
 sides s ll lr rl rr a b o (number-2 e) r = never-so r
 sides s ll lr rl rr a b o (left-3-to-5 q e n i h k f) r = otherwise n 0 i (omega (arith, k)) r
 sides s ll lr rl rr a b o (right-3-to-5 q e l g n i h k f) r = otherwise n 1 i (omega (arith, k)) r
+sides s ll lr rl rr a b o (left-11 q e f) r = never-so r
+sides s ll lr rl rr a b o (right-11 q e l g f) r = never-so r
 sides s ll lr rl rr a b o (number-6 q e l g x h f) r = never-so r
+sides s ll lr rl rr a b o (number-12 q e l g x h f k) r = never-so r
 sides s ll lr rl rr a b o (number-7-or-8 q shape ls rs t x e) r = record { q = q; shape = shape; ls = ls; rs = rs; taken = t }
 sides s ll lr rl rr a b o (number-9 q shape ls rs t l e f) r = record { q = q; shape = shape; ls = ls; rs = rs; taken = t }
 sides s ll lr rl rr a b o (number-10 q shape ls rs t l e f g) r = record { q = q; shape = shape; ls = ls; rs = rs; taken = t }

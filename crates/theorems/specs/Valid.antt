@@ -21,7 +21,8 @@ use Rattle.model.specs.Row.{onlyMissing, zipWith, merged, overwritten, overlaps
 use Rattle.model.specs.Labels.{Labels, WellFormed}
 use Rattle.model.specs.Edits.{Names}
 use Rattle.model.specs.Query.{Query, shouldResetMetricGroup, Matching, all, on, ignoring, Join, oneToOne, group, Side, left, right}
-use Rattle.model.specs.Vector.{Series, Shape, Vector, vector, takeVector, sizesOf, labelPart, labelBytes, readingsOf, Readings, GoodSeries, Valid}
+use Rattle.model.specs.Vector.{Series, Shape, Vector, vector, takeVector, sizesOf, labelPart, labelBytes, readingsOf}
+use Rattle.model.specs.Vector.{Readings, GoodSeries, GoodGrid, Valid}
 use Rattle.model.specs.Laws.Booleans.{neither-of}
 use Rattle.model.specs.Laws.Lists.{All-map, All-append}
 use Rattle.model.specs.Laws.Edits.{clear-well, on-well, ignoring-well, set-tags-well}
@@ -289,58 +290,62 @@ series-each : (P : Series → Type 0) (l : List (Ranked Rank Series)) → All (�
 series-each P [] a = tt
 series-each P (e ∷ l) a = (a .0, series-each P l (a .1))
 
-not-refused : {X : Type 0} (k i j n p : ℕ) (x y : List ℕ) → refused k i j ≡ answered n p x y → X
-not-refused k i j n p x y e = absurd (let z : _≡_ {A = ℕ} 0 1 = cc in omega arith)
+not-refused : {X : Type 0} (k i j n : ℕ) (shape : Shape) (x y : List ℕ) → refused k i j ≡ answered n shape x y → X
+not-refused k i j n shape x y e = absurd (let z : _≡_ {A = ℕ} 0 1 = cc in omega arith)
 
 taken-again : (side : ℕ) (v : Vector) → Valid v
-    → takeVector side (sizesOf (length (v .series)) (v .shape) (length (labelBytes (v .series))) ++ labelBytes (v .series)) (readingsOf (v .series)) ≡ vector v
+    → takeVector side (sizesOf (length (v .series)) (v .shape) (length (labelBytes (v .series))) ++ labelBytes (v .series))
+    (readingsOf (v .series)) ≡ vector v
 unfolding labelPart
 taken-again side v h = take-valid side v h
 
-module _ (a b n p : ℕ) (x y : List ℕ) where
+module _ (a b n : ℕ) (given : Shape) (x y : List ℕ) where
   -- an answer that fits
-  borne-out : (v : Vector) → Valid v → Fits a b (v .shape) (v .series) → written (v .shape) (v .series) ≡ answered n p x y → ValidAnswer a b n p x y
+  borne-out : (v : Vector) → Valid v → Fits a b (v .shape) (v .series)
+      → written (v .shape) (v .series) ≡ answered n given x y → ValidAnswer a b n given x y
   borne-out v h f e =
       let count : n ≡ length (v .series) = cc in
-      let points : p ≡ v .shape .points = cc in
+      let on-grid : given ≡ v .shape = cc in
       let labels : x ≡ labelBytes (v .series) = cc in
       let readings : y ≡ readingsOf (v .series) = cc in
       let size = readings-length (v .shape .points) (v .series) (h .series) in
       record {
         v = v;
         count = count;
-        points = points;
+        on-grid = on-grid;
         labels = labels;
         readings = readings;
         valid = h;
         bytes = rw labels (labels-bytes (v .shape .points) (v .series) (h .series));
         words = rw readings (readings-words (v .shape .points) (v .series) (h .series));
-        size = rw (readings, count, points) size;
+        size = rw (readings, count, on-grid) size;
         labels-fit = rw labels (f .labels);
         readings-fit = rw (readings, size) (f .rows);
-        again = λ side. rw (count, labels, readings) (taken-again side v h);
+        again = λ side. rw (count, on-grid, labels, readings) (taken-again side v h);
       }
 
-  fitted : (shape : Shape) (ss : List Series) → shape .points ≤ maxPoints → All (Proper (shape .points)) ss → Way a b shape ss (fit a b shape ss)
-      → fit a b shape ss ≡ answered n p x y → ValidAnswer a b n p x y
-  fitted shape ss s g (too-big w) e = not-refused 9 0 0 n p x y (sym w ∙ e)
-  fitted shape ss s g (no-room w) e = not-refused 10 0 0 n p x y (sym w ∙ e)
-  fitted shape ss s g (fine f) e =
+  fitted : (shape : Shape) (ss : List Series) → shape .points ≤ maxPoints → GoodGrid shape → All (Proper (shape .points)) ss
+      → Way a b shape ss (fit a b shape ss)
+      → fit a b shape ss ≡ answered n given x y
+      → ValidAnswer a b n given x y
+  fitted shape ss s r g (too-big w) e = not-refused 9 0 0 n given x y (sym w ∙ e)
+  fitted shape ss s r g (no-room w) e = not-refused 10 0 0 n given x y (sym w ∙ e)
+  fitted shape ss s r g (fine f) e =
       borne-out (record { shape = shape; series = ss })
-      (record { few = f .few; points = s; bytes = f .bytes; series = good-each (shape .points) ss g (f .tags) })
+      (record { few = f .few; points = s; grid = r; bytes = f .bytes; series = good-each (shape .points) ss g (f .tags) })
       f (sym (fits-fit a b shape ss f) ∙ e)
 
-  concluded-valid : (shape : Shape) → shape .points ≤ maxPoints → (v : Verdict) → Holds (Proper (shape .points)) v
-      → concluded a b shape v ≡ answered n p x y → ValidAnswer a b n p x y
-  concluded-valid shape s (duplicate c) h e = not-refused _ _ _ n p x y e
-  concluded-valid shape s (answer l) h e = fitted shape (seriesIn l) s (series-each _ l h) (fit-way a b shape (seriesIn l)) e
+  concluded-valid : (shape : Shape) → shape .points ≤ maxPoints → GoodGrid shape → (v : Verdict) → Holds (Proper (shape .points)) v
+      → concluded a b shape v ≡ answered n given x y → ValidAnswer a b n given x y
+  concluded-valid shape s r (duplicate c) h e = not-refused _ _ _ n given x y e
+  concluded-valid shape s r (answer l) h e = fitted shape (seriesIn l) s r (series-each _ l h) (fit-way a b shape (seriesIn l)) e
 
 pub answers-are-valid : AnswersAreValid
-answers-are-valid s ll lr rl rr bl wl br wr a b n p x y e =
+answers-are-valid s ll lr rl rr bl wl br wr a b n given x y e =
     let o = has-sides s ll lr rl rr a b (ap refusedOtherwise e) in
     let hl = left-valid s ll lr rl rr bl wl br wr (o .q) (o .shape) (o .ls) (o .rs) (o .taken) in
     let hr = right-valid s ll lr rl rr bl wl br wr (o .q) (o .shape) (o .ls) (o .rs) (o .taken) in
-    concluded-valid a b n p x y (o .shape) (hl .points) (verdict (o .q) (o .ls) (o .rs))
+    concluded-valid a b n given x y (o .shape) (hl .points) (hl .grid) (verdict (o .q) (o .ls) (o .rs))
     (verdict-proper (o .shape .points) (o .q) (o .ls) (o .rs) (proper-each (o .shape .points) (o .ls) (hl .series))
     (proper-each (o .shape .points) (o .rs) (hr .series)))
     (sym (taken-call s ll lr rl rr (o .q) (o .shape) (o .ls) (o .rs) (o .taken) a b) ∙ e)

@@ -12,7 +12,8 @@ use Rattle.model.specs.Limits.{maxSeries, maxPoints, sizesLength}
 use Rattle.model.specs.Labels.{Labels}
 use Rattle.model.specs.Record.{encode}
 use Rattle.model.specs.Vector.{Shape, Vector, labelsOfAll, labelBytes, TakenVector, vector, faulty, Records, records}
-use Rattle.model.specs.Vector.{badRecord, recordsIn, seriesOf, withReadings, withSizes, twoBytesAt, takeVector}
+use Rattle.model.specs.Vector.{badRecord, recordsIn, seriesOf, withReadings, withArray, goodGrid, withGrid, withSizes}
+use Rattle.model.specs.Vector.{twoBytesAt, shapeIn, takeVector}
 use Rattle.model.specs.Laws.Booleans.{both-of}
 use Rattle.model.specs.Laws.Record.{decode-is}
 use Rattle.model.specs.Laws.Vector.{ReadAs, records-read, read-bytes, series-count, series-labels, series-bytes}
@@ -35,7 +36,8 @@ read-positions size (l ∷ ls) s h e =
     let r = e .0 in
     let len : length s ≡ length (encode l) + length r = ap length (decode-is s l r (e .1) .bytes) ∙ length-append (encode l) r in
     let here : size - length r ≡ size - length s + length (encode l) = omega (arith, h, len) in
-    rw (e .1) (ap (λ (x : List ℕ). (size - length s) ∷ x) (read-positions size ls r (omega (arith, h, len)) (e .2) ∙ ap (λ (p : ℕ). starts p ls) here))
+    rw (e .1)
+    (ap (λ (x : List ℕ). (size - length s) ∷ x) (read-positions size ls r (omega (arith, h, len)) (e .2) ∙ ap (λ (p : ℕ). starts p ls) here))
 
 -- the code's answer t, read back: what taking on a side gives
 
@@ -73,7 +75,8 @@ parts-read n shape s x ls hn hp f h =
       bytes = read-bytes ls s (read .reads) ∙ sym (series-bytes (shape .points) ls x);
       rows = rw count h;
       series = rw labels;
-      positions = ap (λ (m : ℕ). noted (length s) m s) (sym (read .count)) ∙ read-positions (length s) ls s (omega arith) (read .reads) ∙ rw (labels, first);
+      positions = ap (λ (m : ℕ). noted (length s) m s) (sym (read .count))
+          ∙ read-positions (length s) ls s (omega arith) (read .reads) ∙ rw (labels, first);
     }
 
 readings-parts : (side n : ℕ) (shape : Shape) (s x : List ℕ) (v : Vector) (o : Records) → n ≤ maxSeries
@@ -96,25 +99,38 @@ taken-parts side s x v e = go (leb sizesLength (length s)) e
     n : ℕ
     n = twoBytesAt s 0
 
-    shape : Shape
-    shape = record { points = twoBytesAt s 2 }
+    array : List ℕ
+    array = drop sizesLength s
 
-    good : Bool
-    good = leb n maxSeries && (leb (shape .points) maxPoints && eqb (length (drop sizesLength s)) (twoBytesAt s 4))
+    few : Bool
+    few = leb n maxSeries && leb (twoBytesAt s 2) maxPoints
 
-    sized : (b : Bool) → good ≡ b
-        → cond b (withReadings side n shape x (recordsIn n 0 (drop sizesLength s))) (faulty 3 side 0) ≡ vector v
-        → Parts (drop sizesLength s) x (cond b (noted (length (drop sizesLength s)) n (drop sizesLength s)) []) v
-    sized true g e =
-        let y = both-of (leb n maxSeries) (leb (shape .points) maxPoints && eqb (length (drop sizesLength s)) (twoBytesAt s 4)) g in
-        let z = both-of (leb (shape .points) maxPoints) (eqb (length (drop sizesLength s)) (twoBytesAt s 4)) (y .1) in
-        readings-parts side n shape (drop sizesLength s) x v (recordsIn n 0 (drop sizesLength s)) (leb-true n maxSeries (y .0))
-        (leb-true (shape .points) maxPoints (z .0)) refl e
+    stated : Bool
+    stated = eqb (length array) (twoBytesAt s 4)
+
+    arrayed : few ≡ true → (b : Bool) → cond b (withReadings side n (shapeIn s) x (recordsIn n 0 array)) (faulty 3 side 0) ≡ vector v
+        → Parts array x (cond b (noted (length array) n array) []) v
+    arrayed g true e =
+        let y = both-of (leb n maxSeries) (leb (twoBytesAt s 2) maxPoints) g in
+        readings-parts side n (shapeIn s) array x v (recordsIn n 0 array) (leb-true n maxSeries (y .0))
+        (leb-true (twoBytesAt s 2) maxPoints (y .1)) refl e
+    arrayed g false e = absurd (let z : _≡_ {A = ℕ} 0 1 = cc in omega arith)
+
+    gridded : few ≡ true → (b : Bool)
+        → cond b (withArray side n (shapeIn s) (twoBytesAt s 4) array x) (faulty 11 side 0) ≡ vector v
+        → Parts array x (cond (b && stated) (noted (length array) n array) []) v
+    gridded g true e = arrayed g stated e
+    gridded g false e = absurd (let z : _≡_ {A = ℕ} 0 1 = cc in omega arith)
+
+    sized : (b : Bool) → few ≡ b
+        → cond b (withGrid side n (shapeIn s) (twoBytesAt s 4) array x) (faulty 3 side 0) ≡ vector v
+        → Parts array x (cond (b && (goodGrid (shapeIn s) && stated)) (noted (length array) n array) []) v
+    sized true g e = gridded g (goodGrid (shapeIn s)) e
     sized false g e = absurd (let z : _≡_ {A = ℕ} 0 1 = cc in omega arith)
 
-    go : (b : Bool) → cond b (withSizes side n shape (twoBytesAt s 4) (drop sizesLength s) x) (faulty 3 side 0) ≡ vector v
-        → Parts (drop sizesLength s) x (cond (b && good) (noted (length (drop sizesLength s)) n (drop sizesLength s)) []) v
-    go true e = sized good refl e
+    go : (b : Bool) → cond b (withSizes side n (shapeIn s) (twoBytesAt s 4) array x) (faulty 3 side 0) ≡ vector v
+        → Parts array x (cond (b && (few && (goodGrid (shapeIn s) && stated))) (noted (length array) n array) []) v
+    go true e = sized few refl e
     go false e = absurd (let z : _≡_ {A = ℕ} 0 1 = cc in omega arith)
 
 -- the vector of n series on a shape that is taken on a side

@@ -7,7 +7,7 @@ use lib.Dec.{leb, eqb}
 use lib.ListN.{length, drop}
 use lib.Seq.{sets}
 use Rattle.model.specs.Limits.{maxSeries, maxPoints, sizesLength}
-use Rattle.model.specs.Vector.{Shape, TakenVector, vector, faulty, twoBytesAt, takeVector}
+use Rattle.model.specs.Vector.{Shape, TakenVector, vector, faulty, twoBytesAt, shapeIn, goodGrid, takeVector}
 use Rattle.side_parts.specs.Lent.{shapeOf}
 use Rattle.timeseries.specs.record_walk.Walks.{noted}
 use Rattle.timeseries.specs.declared.Taken.{Taken}
@@ -19,11 +19,13 @@ pub data TakenAnswer : Type 0 where
   fault : ℕ → ℕ → TakenAnswer
 
 -- the code's answers. 01: 3, sizes cut ..; 4, an empty key ..; 5, readings not n times p. Fields: .. series place (0 for .. number 5).
+-- 02: 11, start or step outside its range .. fields as for sizes.
 abbrev pub takenAnswer : Taken → TakenAnswer
 takenAnswer (T.Vector n shape) = sizes n (shapeOf shape)
 takenAnswer (T.Cut i) = fault 3 i
 takenAnswer (T.BadKey i) = fault 4 i
 takenAnswer T.Readings = fault 5 0
+takenAnswer T.BadGrid = fault 11 0
 
 -- the answer for what is taken
 abbrev pub vectorAnswer : TakenVector → TakenAnswer
@@ -45,10 +47,11 @@ takenNumber t = answerNumber (takenAnswer t)
 abbrev pub takenPlace : Taken → ℕ
 takenPlace t = answerPlace (takenAnswer t)
 
--- 01: sizes cut or above a limit, a label array not of its stated length
+-- 01: sizes cut or above a limit, a label array not of its stated length. 02: start or step outside its range.
 abbrev pub goodSizes : List ℕ → Bool
 goodSizes s =
-    leb sizesLength (length s) && (leb (twoBytesAt s 0) maxSeries && (leb (twoBytesAt s 2) maxPoints && eqb (length (drop sizesLength s)) (twoBytesAt s 4)))
+    leb sizesLength (length s) && ((leb (twoBytesAt s 0) maxSeries && leb (twoBytesAt s 2) maxPoints)
+    && (goodGrid (shapeIn s) && eqb (length (drop sizesLength s)) (twoBytesAt s 4)))
 
 -- the positions that taking a label part notes; none where its sizes are bad
 abbrev pub notedIn : List ℕ → List ℕ

@@ -7,6 +7,7 @@ use mir.Syntax.{w8, w64}
 use mir.Val.{Fits}
 use lib.ListN.{length, getD, take, drop, length-append}
 use lib.Seq.{take-append-seam}
+use Rattle.model.specs.Vector.{Shape}
 use Rattle.semantics.specs.Call as Call
 use Rattle.semantics.specs.Call.{refused, answered, call}
 use Rattle.theorems.specs.Valid.{answers-are-valid}
@@ -26,9 +27,9 @@ pub record Printable (want : Call.Outcome) (w : Told) (x y : List ℕ) : Type 0 
   pub text : toldText w x y ≡ printed want
   pub short : length (printed want) ≤ maxText
 
--- an answer whose readings are n times p
+-- an answer whose readings are as many as its series and points say
 pub record Borne (want : Call.Outcome) : Type 0 where
-  pub sizes : (n p : ℕ) (x y : List ℕ) → want ≡ answered n p x y → length y ≡ n * p
+  pub sizes : (n : ℕ) (shape : Shape) (x y : List ℕ) → want ≡ answered n shape x y → length y ≡ n * shape .points
 
 starts : (x d r : List ℕ) → r ≡ startingWith x d → take (length x) r ≡ x
 starts x d r e = rw e (take-append-seam x (drop (length x) d))
@@ -40,15 +41,15 @@ printable : (want : Call.Outcome) (w : Told) (x₀ y₀ x y : List ℕ) → Born
     → y ≡ readingsAfter want y₀ → length x ≡ 65535 → length y ≡ 8192 → Printable want w x y
 printable (refused k a b) w x₀ y₀ x y v e hx hy lx ly =
     rw e (record { within = record { lies = tt }; text = refl; short = omega (arith, refusal-size k a b) })
-printable (answered n p labels readings) w x₀ y₀ x y v e hx hy lx ly =
-    let s : length readings ≡ n * p = v .sizes n p labels readings refl in
+printable (answered n shape labels readings) w x₀ y₀ x y v e hx hy lx ly =
+    let s : length readings ≡ n * shape .points = v .sizes n shape labels readings refl in
     let wx : length labels ≤ length x = starts-within labels x₀ x hx in
     let wy : length readings ≤ length y = starts-within readings y₀ y hy in
     rw e (
     record {
       within = record { lies = (wx, omega (arith, wy, s)) };
       text = rw (starts labels x₀ x hx, ← s, starts readings y₀ y hy);
-      short = omega (arith, answer-size n p labels readings, wx, wy, lx, ly);
+      short = omega (arith, answer-size n shape labels readings, wx, wy, lx, ly);
     })
 
 module _ (q ll lr rl rr x₀ y₀ x y : List ℕ) (r : Outcome) (hr : Ran (call q ll lr rl rr (length x₀) (length y₀)) x₀ y₀ x y r)
@@ -58,8 +59,8 @@ module _ (q ll lr rl rr x₀ y₀ x y : List ℕ) (r : Outcome) (hr : Ran (call 
   borne : Borne (ran q ll lr rl rr)
   borne =
       record {
-        sizes = λ n p u v e.
-            answers-are-valid q ll lr rl rr (bytes-of ll bl) (readings-of lr wl) (bytes-of rl br) (readings-of rr wr) 65535 8192 n p u v e .size;
+        sizes = λ n shape u v e.
+            answers-are-valid q ll lr rl rr (bytes-of ll bl) (readings-of lr wl) (bytes-of rl br) (readings-of rr wr) 65535 8192 n shape u v e .size;
       }
 
   as-ran : Ran (ran q ll lr rl rr) x₀ y₀ x y r

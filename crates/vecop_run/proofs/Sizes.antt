@@ -7,11 +7,13 @@ use lib.ListN.{length, take, drop, length-append, take-append-drop}
 use lib.Dec.{ltb}
 use Rattle.model.specs.Lists.{cases}
 use Rattle.model.specs.Labels.{Tag, Labels}
+use Rattle.model.specs.Vector.{Shape}
 use Rattle.model.specs.Record.{Decoded, decoded, cut, badKey, decode, encodeField, encodeTags, encode}
 use Rattle.model.specs.Laws.Record.{decode-is}
 use Rattle.vecop_run.specs.label_text.Numerals.{digitCount, decimal}
 use Rattle.vecop_run.specs.label_text.LabelText.{isPlain, escaped, escapedAll, tagText, moreTags, tagsText, bracedTags, labelsText}
-use Rattle.vecop_run.specs.outcome_text.Text.{readingText, rowText, lineText, onRecord, linesText, twoNumbers, answerText, refusalText}
+use Rattle.vecop_run.specs.outcome_text.Text.{readingText, rowText, lineText, onRecord, linesText, twoNumbers}
+use Rattle.vecop_run.specs.outcome_text.Text.{numberText, sizesText, answerText, refusalText}
 use Rattle.vecop_run.proofs.label_text.Numerals.{digits-length}
 
 escaped-size : (b : ℕ) → length (escaped b) ≤ 3
@@ -40,7 +42,12 @@ tag-size t =
 encoded-size : (t : Tag) (ts : List Tag) → length (encodeTags (t ∷ ts)) ≡ 2 + (length (t .key) + length (t .value)) + length (encodeTags ts)
 unfolding encodeTags
 encoded-size t ts =
-    omega (arith, length-append (encodeField (t .key)) (encodeField (t .value) ++ encodeTags ts), length-append (encodeField (t .value)) (encodeTags ts))
+    omega (
+      arith,
+      length-append (encodeField (t .key)) (encodeField (t .value) ++ encodeTags ts),
+      length-append
+          (encodeField (t .value)) (encodeTags ts),
+    )
 
 more-size : (ts : List Tag) → length (moreTags ts) ≤ 3 * length (encodeTags ts)
 unfolding moreTags
@@ -117,14 +124,41 @@ decimal-size n = omega (arith, digits-length 10 (digitCount 20 n) n, count-size 
 two-size : (a b : ℕ) → length (twoNumbers a b) ≤ 42
 unfolding twoNumbers
 two-size a b =
-    omega (arith, length-append (decimal a) ((32 ∷ []) ++ (decimal b ++ (10 ∷ []))), length-append (decimal b) (10 ∷ []), decimal-size a, decimal-size b)
+    omega (
+      arith,
+      length-append (decimal a) ((32 ∷ []) ++ (decimal b ++ (10 ∷ []))),
+      length-append (decimal b) (10 ∷ []),
+      decimal-size a,
+      decimal-size b,
+    )
 
-pub answer-size : (n p : ℕ) (x y : List ℕ) → length (answerText n p x y) ≤ 49 + 3 * length x + 17 * length y
+number-size : (a : ℕ) → length (numberText a) ≤ 21
+unfolding numberText
+number-size a = omega (arith, length-append (decimal a) (32 ∷ []), decimal-size a)
+
+sizes-size : (n : ℕ) (shape : Shape) → length (sizesText n shape) ≤ 84
+unfolding sizesText
+sizes-size n shape =
+    omega (
+      arith,
+      length-append (numberText n) (numberText (shape .points) ++ twoNumbers (shape .start) (shape .step)),
+      length-append (numberText (shape .points)) (twoNumbers (shape .start) (shape .step)),
+      number-size n,
+      number-size (shape .points),
+      two-size (shape .start) (shape .step),
+    )
+
+pub answer-size : (n : ℕ) (shape : Shape) (x y : List ℕ) → length (answerText n shape x y) ≤ 91 + 3 * length x + 17 * length y
 unfolding answerText
-answer-size n p x y =
-    omega (arith, length-append (twoNumbers n p) (linesText n p x y), two-size n p, lines-size n p x y)
+answer-size n shape x y =
+    omega (
+      arith,
+      length-append (sizesText n shape) (linesText n (shape .points) x y),
+      sizes-size n shape,
+      lines-size n (shape .points) x y,
+    )
 
 pub refusal-size : (k a b : ℕ) → length (refusalText k a b) ≤ 71
 unfolding refusalText
 refusal-size k a b =
-    omega (arith, length-append (decimal k) ((32 ∷ []) ++ twoNumbers a b), decimal-size k, two-size a b)
+    omega (arith, length-append (numberText k) (twoNumbers a b), number-size k, two-size a b)

@@ -22,6 +22,6 @@ textOf (three query left right) = printed (called query left right)
 abbrev pub vecopText : List ℕ → List ℕ
 vecopText input = textOf (framed input)
 
--- room for every text: 49 bytes of the first line, 3 a label byte, 17 a reading
+-- room for every text: 91 bytes of the first line, 3 a label byte, 17 a reading
 abbrev pub maxText : ℕ
-maxText = 335918
+maxText = 335960

@@ -1,46 +1,21 @@
 // The input of the program: its three parts, and of a vector's part the labels and the readings. Parts are places, and nothing is copied
 // but the readings, which become numbers.
 use fields::Place;
+use little_endian::eight_bytes_at;
+use little_endian::four_bytes_at;
+use little_endian::two_bytes_at;
 use operator::Operator;
 ghost use mathlib.Core.Path.{_≡_};
 ghost use Prim.Native.Nat.{_+_, _*_, _≤_, _<_};
 ghost use lib.ListN.{length};
 ghost use Rattle.model.specs.Limits.{sizesLength};
-ghost use Rattle.model.specs.Vector.{twoBytesAt};
+ghost use Rattle.little_endian.specs.Numbers.{Read};
 ghost use Rattle.writing.specs.Written.{Put};
-ghost use Rattle.vecop_run.specs.frame.Frames.{fourBytesAt, eightBytesAt, maxInput};
+ghost use Rattle.vecop_run.specs.frame.Frames.{maxInput};
 ghost use Rattle.vecop_run.specs.frame.Sides.{readingCount, wordsIn, readingsIn};
-ghost use Rattle.vecop_run.specs.frame.Found.{Read, PartFound, PartsFound, Split};
+ghost use Rattle.vecop_run.specs.frame.Found.{PartFound, PartsFound, Split};
 
 pub(crate) const MAX_INPUT: usize = 65536;
-
-fn wide(x: u8) -> u64
-    ensures { λ r. ⌜ Read x 256 r ⌝ }
-{
-    x as u64
-}
-
-fn two_at(s: &[u8], at: usize) -> u64
-    requires { ⌜ at + 2 ≤ length (now s) ⌝ }
-    ensures { λ r. ⌜ Read (twoBytesAt (now (s .entry)) at) 65536 r ⌝ }
-{
-    let next = at + 1;
-    wide(s[at]) + 256 * wide(s[next])
-}
-
-fn four_at(s: &[u8], at: usize) -> u64
-    requires { ⌜ at + 4 ≤ length (now s) ⌝ }
-    ensures { λ r. ⌜ Read (fourBytesAt (now (s .entry)) at) 4294967296 r ⌝ }
-{
-    two_at(s, at) + 65536 * two_at(s, at + 2)
-}
-
-fn eight_at(s: &[u8], at: usize) -> u64
-    requires { ⌜ at + 8 ≤ length (now s) ⌝ }
-    ensures { λ r. ⌜ r ≡ eightBytesAt (now (s .entry)) at ⌝ }
-{
-    four_at(s, at) + 4294967296 * four_at(s, at + 4)
-}
 
 // The part whose length stands at a place.
 fn part_at(s: &[u8], at: usize) -> Place
@@ -50,7 +25,7 @@ fn part_at(s: &[u8], at: usize) -> Place
     if s.len() - at < 4 {
         return Place::Short;
     }
-    let n = four_at(s, at) as usize;
+    let n = four_bytes_at(s, at) as usize;
     let start = at + 4;
     if n <= s.len() - start {
         Place::At {
@@ -105,7 +80,7 @@ pub(crate) fn labels_end(v: &[u8]) -> usize
     if v.len() < Operator::SIZES_LENGTH {
         return v.len();
     }
-    let size = two_at(v, 4) as usize;
+    let size = two_bytes_at(v, 4) as usize;
     let end = Operator::SIZES_LENGTH + size;
     if end < v.len() { end } else { v.len() }
 }
@@ -119,7 +94,7 @@ fn read_words(s: &[u8], k: usize, words: &mut [u64]) -> usize
     let mut i: usize = 0;
     let mut p: usize = 0;
     while i < k {
-        words[i] = eight_at(s, p);
+        words[i] = eight_bytes_at(s, p);
         i += 1;
         p += 8;
     }
@@ -131,8 +106,8 @@ fn reading_count(v: &[u8]) -> usize
     requires { ⌜ sizesLength ≤ length (now v) ⌝ }
     ensures { λ r. ⌜ Read (readingCount (now (v .entry))) 4294967296 r ⌝ }
 {
-    let n = two_at(v, 0) as usize;
-    let p = two_at(v, 2) as usize;
+    let n = two_bytes_at(v, 0) as usize;
+    let p = two_bytes_at(v, 2) as usize;
     n * p
 }
 

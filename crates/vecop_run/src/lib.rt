@@ -14,7 +14,7 @@ ghost use Rattle.vecop_run.specs.Vecop.{ran, called, vecopText, maxText}
 use crate::frame::Parts;
 
 // Room for every text.
-pub const MAX_TEXT: usize = 335918;
+pub const MAX_TEXT: usize = 335960;
 
 // A query over label parts and readings, with output parts as long as the program's.
 fn put_run<'a>(

@@ -4,6 +4,7 @@ use crate::label_text::put_labels;
 use answers::Outcome;
 use answers::Told;
 use label_records::Record;
+use side_parts::Shape;
 use writing::put_byte;
 use writing::put_bytes;
 ghost use mathlib.Core.Path.{_≡_};
@@ -11,9 +12,11 @@ ghost use Prim.Native.Nat.{_+_, _*_, _≤_};
 ghost use lib.ListN.{length};
 ghost use Rattle.writing.specs.Written.{Put};
 ghost use Rattle.record_tags.specs.Lenient.{labelsOf};
+ghost use Rattle.side_parts.specs.Lent.{shapeOf};
 ghost use Rattle.answers.specs.Outcomes.{told};
 ghost use Rattle.vecop_run.specs.label_text.Numerals.{digitCount, decimal};
-ghost use Rattle.vecop_run.specs.outcome_text.Text.{readingText, rowText, lineText, linesText, twoNumbers, answerText, refusalText, unreadableText};
+ghost use Rattle.vecop_run.specs.outcome_text.Text.{readingText, rowText, lineText, linesText, twoNumbers};
+ghost use Rattle.vecop_run.specs.outcome_text.Text.{numberText, sizesText, answerText, refusalText, unreadableText};
 ghost use Rattle.vecop_run.specs.outcome_text.Told.{toldText, Within};
 
 fn digit_count(n: usize) -> usize
@@ -111,14 +114,34 @@ fn put_two(out: &mut [u8], at: usize, a: usize, b: usize) -> usize
     put_byte(out, r, b'\n')
 }
 
-fn put_answer(out: &mut [u8], n: usize, p: usize, labels: &[u8], readings: &[u64]) -> usize
-    requires { ⌜ length (answerText n p (now labels) (now readings)) ≤ length (now out) ⌝ }
-    requires { ⌜ n * p ≤ length (now readings) ⌝ }
-    ensures { λ r. ⌜ Put (now (out .entry)) 0 (answerText n p (now (labels .entry)) (now (readings .entry))) (now (out .exit)) r ⌝ }
+fn put_number(out: &mut [u8], at: usize, a: usize) -> usize
+    requires { ⌜ at + length (numberText a) ≤ length (now out) ⌝ }
+    ensures { λ r. ⌜ Put (now (out .entry)) at (numberText a) (now (out .exit)) r ⌝ }
+{
+    let p = put_decimal(out, at, a);
+    put_byte(out, p, b' ')
+}
+
+fn put_sizes(out: &mut [u8], at: usize, n: usize, shape: Shape) -> usize
+    requires { ⌜ at + length (sizesText n (shapeOf shape)) ≤ length (now out) ⌝ }
+    ensures { λ r. ⌜ Put (now (out .entry)) at (sizesText n (shapeOf shape)) (now (out .exit)) r ⌝ }
+{
+    let p = put_number(out, at, n);
+    let q = put_number(out, p, shape.points);
+    put_two(out, q, shape.start, shape.step)
+}
+
+fn put_answer(out: &mut [u8], n: usize, shape: Shape, labels: &[u8], readings: &[u64]) -> usize
+    requires { ⌜ length (answerText n (shapeOf shape) (now labels) (now readings)) ≤ length (now out) ⌝ }
+    requires { ⌜ n * shape .points ≤ length (now readings) ⌝ }
+    ensures { λ r. ⌜
+        Put (now (out .entry)) 0 (answerText n (shapeOf shape) (now (labels .entry)) (now (readings .entry)))
+        (now (out .exit)) r
+        ⌝ }
 {
     let o = put_bytes(out, 0, b"answer ");
-    let q = put_two(out, o, n, p);
-    put_lines(out, q, n, p, labels, readings)
+    let q = put_sizes(out, o, n, shape);
+    put_lines(out, q, n, shape.points, labels, readings)
 }
 
 fn put_refusal(out: &mut [u8], number: usize, a: usize, b: usize) -> usize
@@ -126,9 +149,8 @@ fn put_refusal(out: &mut [u8], number: usize, a: usize, b: usize) -> usize
     ensures { λ r. ⌜ Put (now (out .entry)) 0 (refusalText number a b) (now (out .exit)) r ⌝ }
 {
     let o = put_bytes(out, 0, b"refused ");
-    let p = put_decimal(out, o, number);
-    let q = put_byte(out, p, b' ');
-    put_two(out, q, a, b)
+    let p = put_number(out, o, number);
+    put_two(out, p, a, b)
 }
 
 // Writes the text of an outcome, whose answer stands at the start of the output parts, and gives its length.
@@ -143,9 +165,8 @@ pub(crate) fn put_outcome(out: &mut [u8], x: Outcome, labels: &[u8], readings: &
             shape,
             bytes,
         } => {
-            let points = shape.points;
-            let k = series * points;
-            put_answer(out, series, points, &labels[..bytes], &readings[..k])
+            let k = series * shape.points;
+            put_answer(out, series, shape, &labels[..bytes], &readings[..k])
         }
         Told::Refusal {
             number,

@@ -1,5 +1,6 @@
-//! A reading of document 01 ("01") in plain Rust, made from its sentences alone, to hold other programs against. Each rule
-//! stands beside the sentence that it reads (in quotes). It is written to be read, not to be fast.
+//! A reading of document 01 ("01"), and of the change requests ("02") as far as they are taken up, in plain Rust, made from their
+//! sentences alone, to hold other programs against. Each rule stands beside the sentence that it reads (in quotes; of 01 where no
+//! other is named). It is written to be read, not to be fast.
 
 mod label;
 mod query;
@@ -13,7 +14,7 @@ pub use query::{Join, Matching, Operator, Query};
 pub use reading::{combine, is_missing, merge, Merged, MISSING};
 pub use rules::{run, Event, What};
 pub use vecop::{frame, vecop};
-pub use vector::{take_vector, Series, Vector};
+pub use vector::{take_vector, Grid, Series, Vector, SIZES};
 
 /// "A refusal has its number and two fields, 0 if not named."
 #[derive(Clone, Copy, Debug, PartialEq, Eq)]
@@ -32,6 +33,7 @@ impl Refusal {
 pub struct Answer {
     pub series: usize,
     pub points: usize,
+    pub grid: Grid,
     pub labels: Vec<u8>,
     pub readings: Vec<u64>,
 }
@@ -44,6 +46,10 @@ pub const MAX_TAGS: usize = 32;
 pub const MAX_POINTS: usize = 1024;
 pub const MAX_LABEL_BYTES: usize = 65_535;
 
+/// 02: "a start in milliseconds (8 bytes, 0 to 2 to the 52nd) and a step (4 bytes, 1 to 86,400,000)"
+pub const MAX_START: u64 = 1 << 52;
+pub const MAX_STEP: u32 = 86_400_000;
+
 /// The lengths of the two lent output parts.
 #[derive(Clone, Copy, Debug, PartialEq, Eq)]
 pub struct Room {
@@ -51,7 +57,7 @@ pub struct Room {
     pub readings: usize,
 }
 
-/// One call. A label part begins with the six bytes of sizes; readings are borrowed apart, as 64-bit patterns.
+/// One call. A label part begins with the sizes; readings are borrowed apart, as 64-bit patterns.
 #[derive(Clone, Debug, PartialEq, Eq)]
 pub struct Call {
     pub query: Vec<u8>,
@@ -78,10 +84,13 @@ pub fn taken(c: &Call) -> Result<(Query, Vector, Vector), Refusal> {
 
 /// "Running: 6, the sides' p differ, empty sides included; 7 left or 8 right duplicate, the first in answer order, left before
 /// right; ... Then 9, the answer has over 512 series, 32 tags or 65,535 label bytes; then 10, it is longer than a lent output
-/// part."
+/// part." 02: "12, the sides' grids differ, empty sides included, after number 6." "The answer carries the grid of its sides".
 pub fn answer(query: &Query, left: &Vector, right: &Vector, room: Room) -> Outcome {
     if left.points != right.points {
         return Err(Refusal::new(6, 0, 0));
+    }
+    if left.grid != right.grid {
+        return Err(Refusal::new(12, 0, 0));
     }
     let mut events = run(query, left, right);
     events.sort_by_key(|e| e.rank);
@@ -102,5 +111,5 @@ pub fn answer(query: &Query, left: &Vector, right: &Vector, room: Room) -> Outco
     if labels.len() > room.labels || readings.len() > room.readings {
         return Err(Refusal::new(10, 0, 0));
     }
-    Ok(Answer { series: series.len(), points: left.points, labels, readings })
+    Ok(Answer { series: series.len(), points: left.points, grid: left.grid, labels, readings })
 }

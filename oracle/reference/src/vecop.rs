@@ -1,7 +1,7 @@
 //! The program `vecop`: from its input to all that it prints.
 use crate::label::take_record;
 use crate::query::take_query;
-use crate::vector::{take_labels, take_vector, Vector};
+use crate::vector::{take_labels, take_vector, Vector, SIZES};
 use crate::{answer, Answer, Call, Outcome, Refusal, Room};
 
 /// "reads query, left, right from standard input, at most 65,536 bytes"
@@ -61,11 +61,11 @@ fn ran(query: &[u8], left: &[u8], right: &[u8]) -> Outcome {
     answer(&query, &left, &right, ROOM)
 }
 
-/// "A vector's readings are what follows its labels": what follows six bytes of sizes and the array of the stated length.
+/// "A vector's readings are what follows its labels": what follows the sizes and the array of the stated length.
 /// "5, readings not n times p (in `vecop`, bytes not 8 times that)."
 fn take_part(side: usize, part: &[u8]) -> Result<Vector, Refusal> {
-    let stated = if part.len() < 6 { 0 } else { usize::from(u16::from_le_bytes([part[4], part[5]])) };
-    let (labels, readings) = part.split_at(part.len().min(6 + stated));
+    let stated = if part.len() < SIZES { 0 } else { usize::from(u16::from_le_bytes([part[4], part[5]])) };
+    let (labels, readings) = part.split_at(part.len().min(SIZES + stated));
     take_labels(side, labels)?;
     if readings.len() % 8 != 0 {
         return Err(Refusal::new(5, side, 0));
@@ -75,9 +75,10 @@ fn take_part(side: usize, part: &[u8]) -> Result<Vector, Refusal> {
 }
 
 /// "Fields: series, points; then a line a series: the name, braces always, tags as key, `=` and the value in double quotes,
-/// parted by commas, and after one space each the readings' bits in sixteen lowercase hexadecimal digits."
+/// parted by commas, and after one space each the readings' bits in sixteen lowercase hexadecimal digits." 02: "`vecop` prints start
+/// and step after the points."
 fn printed(a: &Answer) -> Vec<u8> {
-    let mut out = format!("answer {} {}\n", a.series, a.points).into_bytes();
+    let mut out = format!("answer {} {} {} {}\n", a.series, a.points, a.grid.start, a.grid.step).into_bytes();
     let mut at = 0;
     for i in 0..a.series {
         let (labels, used) = take_record(&a.labels[at..]).expect("an answer's record");

@@ -1,4 +1,4 @@
-//! 01's settled examples, and its one printed answer.
+//! 01's settled examples, its one printed answer, and 02's grids.
 use reference::*;
 
 const N: u64 = MISSING;
@@ -13,7 +13,7 @@ fn series(name: &str, tags: &[(&str, &str)], values: &[f64]) -> Series {
 }
 
 fn vector(series: Vec<Series>) -> Vector {
-    Vector { points: series.first().map_or(0, |s| s.row.len()), series }
+    Vector::hourly(series.first().map_or(0, |s| s.row.len()), series)
 }
 
 fn query(op: Operator) -> Query {
@@ -118,7 +118,7 @@ fn printed_quotient() {
         right,
         room: Room { labels: 0, readings: 0 },
     };
-    let text = "answer 1 3\n{press=\"A\"} 4014000000000000 7ff8000000000000 4000000000000000\n";
+    let text = "answer 1 3 0 3600000\n{press=\"A\"} 4014000000000000 7ff8000000000000 4000000000000000\n";
     assert_eq!(String::from_utf8(vecop(&frame(&c))).expect("text"), text);
 }
 
@@ -127,7 +127,7 @@ fn limits() {
     let tags = |n: usize| -> Vec<Tag> { (0..n).map(|i| Tag { key: vec![i as u8 + 1], value: vec![] }).collect() };
     let part = |n: usize, p: usize, t: usize| {
         let s = Series { labels: Labels { name: vec![], tags: tags(t) }, row: vec![N; p] };
-        Vector { points: p, series: vec![s; n] }.parts()
+        Vector::hourly(p, vec![s; n]).parts()
     };
     for (n, p, t) in [(512, 1, 1), (1, 1024, 1), (1, 1, 32)] {
         let (labels, readings) = part(n, p, t);
@@ -136,5 +136,52 @@ fn limits() {
     for (n, p, t) in [(513, 1, 1), (1, 1025, 1), (1, 1, 33)] {
         let (labels, readings) = part(n, p, t);
         assert_eq!(take_vector(0, &labels, &readings).expect_err("a refusal").number, 3);
+    }
+}
+
+fn on(start: u64, step: u32, points: usize, series: Vec<Series>) -> Vector {
+    Vector { points, grid: Grid { start, step }, series }
+}
+
+fn called_on(left: &Vector, right: &Vector) -> Outcome {
+    let ((left_labels, left), (right_labels, right)) = (left.parts(), right.parts());
+    let room = Room { labels: 65_535, readings: 8_192 };
+    call(&Call { query: query(Operator::Add).bytes(), left_labels, left, right_labels, right, room })
+}
+
+#[test]
+fn grids_in_range_are_carried() {
+    let one = || vec![series("", &[], &[1.])];
+    for (start, step) in [(0, 1), (0, MAX_STEP), (MAX_START, 1), (MAX_START, MAX_STEP)] {
+        for side in [on(start, step, 1, one()), on(start, step, 1, vec![]), on(start, step, 0, vec![])] {
+            assert_eq!(called_on(&side, &side).expect("an answer").grid, Grid { start, step });
+        }
+    }
+    assert_eq!(Grid { start: 5, step: 10 }.times(3), [5, 15, 25]);
+}
+
+#[test]
+fn grids_out_of_range() {
+    for (start, step) in [(MAX_START + 1, 1), (u64::MAX, 1), (0, 0), (0, MAX_STEP + 1), (0, u32::MAX)] {
+        let (good, bad) = (on(0, 1, 0, vec![]), on(start, step, 0, vec![]));
+        assert_eq!(called_on(&bad, &good), Err(Refusal::new(11, 0, 0)));
+        assert_eq!(called_on(&good, &bad), Err(Refusal::new(11, 1, 0)));
+        // 3 by the limits and by a cut comes before it, 3 by the array's length after it.
+        assert_eq!(called_on(&good, &on(start, step, 1025, vec![])), Err(Refusal::new(3, 1, 0)));
+        let (labels, _) = bad.parts();
+        assert_eq!(take_vector(0, &labels[..SIZES - 1], &[]), Err(Refusal::new(3, 0, 0)));
+        assert_eq!(take_vector(0, &[&labels[..], &[0]].concat(), &[]), Err(Refusal::new(11, 0, 0)));
+    }
+}
+
+#[test]
+fn grids_that_differ() {
+    let twice = || vec![series("", &[], &[1.]), series("", &[], &[1.])];
+    let good = on(7, 5, 1, twice());
+    assert_eq!(called_on(&good, &good), Err(Refusal::new(7, 1, 0)));
+    for (start, step) in [(8, 5), (7, 6), (5, 7)] {
+        assert_eq!(called_on(&good, &on(start, step, 1, twice())), Err(Refusal::new(12, 0, 0)));
+        assert_eq!(called_on(&on(start, step, 0, vec![]), &on(7, 5, 0, vec![])), Err(Refusal::new(12, 0, 0)));
+        assert_eq!(called_on(&good, &on(start, step, 0, vec![])), Err(Refusal::new(6, 0, 0)));
     }
 }

@@ -1,5 +1,6 @@
 //! Cases: random ones from a seed, and small ones in full.
-use reference::{Call, Join, Labels, Matching, Operator, Query, Room, Series, Tag, Vector, MISSING, NAME};
+use reference::{Call, Grid, Join, Labels, Matching, Operator, Query, Room, Series, Tag, Vector};
+use reference::{MAX_START, MAX_STEP, MISSING, NAME};
 
 use crate::random::Random;
 
@@ -43,6 +44,10 @@ pub const READINGS: [u64; 24] = [
     0x7ff0_0000_0000_0001, // signalling
     0xffff_ffff_ffff_ffff,
 ];
+
+/// Starts and steps at the ends of their ranges, and some that people have: 2026-03-02, quarters of an hour, hours.
+const STARTS: [u64; 7] = [0, 1, 1 << 32, 1_772_409_600_000, 1_772_431_200_000, MAX_START - 1, MAX_START];
+const STEPS: [u32; 7] = [1, 2, 1_000, 900_000, 3_600_000, MAX_STEP - 1, MAX_STEP];
 
 pub const ROOM: Room = Room { labels: 65_535, readings: 8_192 };
 
@@ -104,6 +109,8 @@ pub fn random(r: &mut Random, op: Operator, extent: Extent, utf8: bool) -> Call 
             only.labels = labels(r.pick(&[b"".as_slice(), b"", b"m"]), &[]);
         }
     }
+    left.grid = random_grid(r);
+    right.grid = if r.one_in(24) { other_grid(r, left.grid) } else { left.grid };
     // Mostly one many-side series a key, as the runs against the Rust admit.
     if !r.one_in(4) {
         match query.join {
@@ -113,6 +120,31 @@ pub fn random(r: &mut Random, op: Operator, extent: Extent, utf8: bool) -> Call 
         }
     }
     call(&query, &left, &right, ROOM)
+}
+
+/// A grid in its ranges.
+pub fn random_grid(r: &mut Random) -> Grid {
+    Grid {
+        start: if r.one_in(2) { r.pick(&STARTS) } else { r.word() % (MAX_START + 1) },
+        step: if r.one_in(2) { r.pick(&STEPS) } else { 1 + r.below(MAX_STEP as usize) as u32 },
+    }
+}
+
+/// Another grid in its ranges, that differs by its start, by its step or by both.
+pub fn other_grid(r: &mut Random, grid: Grid) -> Grid {
+    loop {
+        let (near, far) = (1 + r.below(2), random_grid(r));
+        let other = match r.below(5) {
+            0 => Grid { start: grid.start.wrapping_add(2 * near as u64).wrapping_sub(3), ..grid },
+            1 => Grid { step: grid.step.wrapping_add(2 * near as u32).wrapping_sub(3), ..grid },
+            2 => Grid { start: far.start, ..grid },
+            3 => Grid { step: far.step, ..grid },
+            _ => far,
+        };
+        if other.is_in_range() && other != grid {
+            return other;
+        }
+    }
 }
 
 fn first_of_keys(query: &Query, vector: &mut Vector) {
@@ -194,7 +226,7 @@ fn random_vector(r: &mut Random, p: usize, pool: &[Labels], extent: Extent, utf8
         })
         .collect();
     gaps(r, &mut series, p);
-    Vector { points: p, series }
+    Vector::hourly(p, series)
 }
 
 fn random_reading(r: &mut Random, odd: bool) -> u64 {
@@ -264,7 +296,7 @@ pub fn all_readings(visit: &mut dyn FnMut(Call)) {
     for op in CARRIED {
         for bool_flag in [false, true] {
             for left in READINGS {
-                let side = |row| Vector { points: p, series: vec![Series { labels: labels(b"m", &[(b"a", b"x")]), row }] };
+                let side = |row| Vector::hourly(p, vec![Series { labels: labels(b"m", &[(b"a", b"x")]), row }]);
                 let query = Query { bool_flag, ..plain(op) };
                 visit(call(&query, &side(vec![left; p]), &side(READINGS.to_vec()), ROOM));
             }
@@ -286,8 +318,8 @@ pub fn all_merges(visit: &mut dyn FnMut(Call)) {
                     row: row(points, patterns >> (k * points), 10 * (k + 1)),
                 })
                 .collect();
-            let several = Vector { points, series: several };
-            let one = Vector { points, series: vec![Series { labels: labels(b"", &[(b"a", b"x")]), row: row(points, !0, 1) }] };
+            let several = Vector::hourly(points, several);
+            let one = Vector::hourly(points, vec![Series { labels: labels(b"", &[(b"a", b"x")]), row: row(points, !0, 1) }]);
             for op in [Operator::Sub, Operator::Lt] {
                 for join in JOINS {
                     let query = Query { join, ..plain(op) };
@@ -361,7 +393,7 @@ fn label_sides() -> Vec<Vector> {
     let bits = |k: usize| rows[k].iter().map(|v: &f64| if v.is_nan() { MISSING } else { v.to_bits() }).collect();
     let side = |places: &[usize]| {
         let series = places.iter().enumerate().map(|(k, i)| Series { labels: all[*i].clone(), row: bits(k) }).collect();
-        Vector { points: 3, series }
+        Vector::hourly(3, series)
     };
     let mut sides = vec![side(&[])];
     sides.extend((0..all.len()).map(|i| side(&[i])));

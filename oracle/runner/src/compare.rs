@@ -1,4 +1,4 @@
-//! The reference held against the Rust: labels, readings and duplicate errors, series order aside, all NaNs equal.
+//! The reference held against the Rust: labels, readings, timestamps and duplicate errors, series order aside, all NaNs equal.
 use std::collections::HashMap;
 
 use reference::{answer, is_missing, run, taken, Call, Event, Join, Query, Room, Series, Vector, What, MISSING};
@@ -30,6 +30,9 @@ pub enum Known {
     RefusedOperator,
     /// 01: sides of different p are refused with 6. The Rust errs, panics, or gives a ragged or an empty answer.
     UnequalPoints,
+    /// 02: sides on different grids are refused with 12. The Rust does not look at timestamps, and each answer series has those of
+    /// the series that it comes from.
+    UnequalGrids,
     /// 01: every many-side series meets its match. The Rust's `group_join` empties the one side on the first of a key, and so
     /// also misses a duplicate that only a later one would show.
     JoinUsesUp,
@@ -43,8 +46,15 @@ pub enum Known {
 }
 
 impl Known {
-    pub const ALL: [Known; 6] =
-        [Known::RefusedOperator, Known::UnequalPoints, Known::JoinUsesUp, Known::WhichDuplicate, Known::NoLimits, Known::NanBits];
+    pub const ALL: [Known; 7] = [
+        Known::RefusedOperator,
+        Known::UnequalPoints,
+        Known::UnequalGrids,
+        Known::JoinUsesUp,
+        Known::WhichDuplicate,
+        Known::NoLimits,
+        Known::NanBits,
+    ];
 }
 
 /// Room that no answer within the limits outgrows: the Rust allocates its own.
@@ -55,7 +65,7 @@ pub fn compare(call: &Call) -> Verdict {
         return refused_operator(call, *op, rest);
     }
     let Ok((query, left, right)) = taken(call) else {
-        return Verdict::Apart("refused by 1 to 5");
+        return Verdict::Apart("refused in taking");
     };
     let Some(argument) = rust::argument(&query, &left, &right) else {
         return Verdict::Apart("not UTF-8");
@@ -67,12 +77,20 @@ pub fn compare(call: &Call) -> Verdict {
     let all = run(&query, &left, &right);
     let seen = as_seen(&query, &left, &right, &all);
     let used_up = seen.len() < all.len();
-    match agrees(&left, &right, &seen, &given) {
+    let outcome = answer(&query, &left, &right, AMPLE);
+    let number = outcome.as_ref().map_or_else(|r| r.number, |_| 0);
+    let same_grid = left.grid == right.grid;
+    let grid = outcome.as_ref().map_or(left.grid, |a| a.grid);
+    let times = same_grid.then(|| rust::timestamps(grid, left.points));
+    match agrees(&left, &right, &seen, &given, times.as_deref()) {
         Err(difference) => Verdict::Differ(difference),
+        Ok(_) if same_grid == (number == 12) => Verdict::Differ(format!("the reference gives {outcome:?}")),
+        Ok(_) if !same_grid => Verdict::Known(Known::UnequalGrids),
         Ok(_) if used_up => Verdict::Known(Known::JoinUsesUp),
         Ok(Detail::OtherDuplicate) => Verdict::Known(Known::WhichDuplicate),
         Ok(Detail::Duplicate) => Verdict::Agree(Agreement::Duplicate),
-        Ok(_) if answer(&query, &left, &right, AMPLE).is_err() => Verdict::Known(Known::NoLimits),
+        Ok(_) if number == 9 => Verdict::Known(Known::NoLimits),
+        Ok(_) if number != 0 => Verdict::Differ(format!("the Rust answers, the reference gives {outcome:?}")),
         Ok(Detail::NanBits) => Verdict::Known(Known::NanBits),
         Ok(Detail::Same) => Verdict::Agree(Agreement::Answer),
     }
@@ -83,7 +101,7 @@ fn refused_operator(call: &Call, op: u8, rest: &[u8]) -> Verdict {
     let mut carried = call.clone();
     carried.query = [&[0], rest].concat();
     let Ok((mut query, left, right)) = taken(&carried) else {
-        return Verdict::Apart("refused by 1 to 5");
+        return Verdict::Apart("refused in taking");
     };
     query.op = reference::Operator::ALL[usize::from(op)];
     match rust::argument(&query, &left, &right).map(rust::run) {
@@ -119,7 +137,8 @@ enum Detail {
     OtherDuplicate,
 }
 
-fn agrees(left: &Vector, right: &Vector, events: &[Event], given: &Given) -> Result<Detail, String> {
+/// `times` are those that each series of the answer is to have; on sides of different grids there are none.
+fn agrees(left: &Vector, right: &Vector, events: &[Event], given: &Given, times: Option<&[i64]>) -> Result<Detail, String> {
     let mut events = events.to_vec();
     events.sort_by_key(|e| e.rank);
     let endings: Vec<String> = events.iter().filter_map(|e| ending(left, right, &e.what)).collect();
@@ -137,7 +156,10 @@ fn agrees(left: &Vector, right: &Vector, events: &[Event], given: &Given) -> Res
         }
         Given::Duplicate(message) if named(message, &endings[0]) => Ok(Detail::Duplicate),
         Given::Duplicate(_) => Ok(Detail::OtherDuplicate),
-        Given::Answer(series) if endings.is_empty() => {
+        Given::Answer { timestamps, .. } if times.is_some_and(|times| timestamps.iter().any(|given| given != times)) => {
+            Err(format!("the Rust's timestamps are {timestamps:?}, the reference's {times:?}"))
+        }
+        Given::Answer { series, .. } if endings.is_empty() => {
             let mut series = series.clone();
             let exact = sorted(&mut series) == sorted(&mut expected);
             if exact {
@@ -152,7 +174,7 @@ fn agrees(left: &Vector, right: &Vector, events: &[Event], given: &Given) -> Res
                 Err(format!("the Rust gives {series:x?}, the reference {expected:x?}"))
             }
         }
-        Given::Answer(series) => Err(format!("the Rust gives {series:x?}, the reference {endings:?}")),
+        Given::Answer { series, .. } => Err(format!("the Rust gives {series:x?}, the reference {endings:?}")),
         Given::OtherError(message) => Err(format!("the Rust errs, `{message}`, the reference {endings:?}, else {expected:x?}")),
         Given::Panic => Err(format!("the Rust panics, the reference {endings:?}, else {expected:x?}")),
     }

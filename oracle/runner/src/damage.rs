@@ -1,10 +1,9 @@
 //! Cases at and beyond the edges: damaged inputs of every kind, limits, and lent parts of every length. The Rust takes no bytes,
 //! so these are for the reference and the library alone.
-use reference::{
-    call as reference_call, Call, Join, Labels, Matching, Operator, Query, Room, Series, Tag, Vector, MISSING, NAME,
-};
+use reference::{call as reference_call, Call, Grid, Join, Labels, Matching, Operator, Query, Room, Series, Tag, Vector};
+use reference::{MAX_START, MAX_STEP, MISSING, NAME, SIZES};
 
-use crate::cases::{call, plain, random, Extent, CARRIED, ROOM};
+use crate::cases::{call, plain, random, random_grid, Extent, CARRIED, ROOM};
 use crate::random::Random;
 
 /// A case to be damaged: small, with some tags on either side.
@@ -49,10 +48,16 @@ pub fn cuts(r: &mut Random, rounds: usize, visit: &mut dyn FnMut(Call)) {
 /// The first `k` bytes, with the array's stated length to suit, so that the cut falls within a record.
 fn restated(part: &[u8], k: usize) -> Vec<u8> {
     let mut out = part[..k].to_vec();
-    if k >= 6 {
-        out[4..6].copy_from_slice(&((k - 6) as u16).to_le_bytes());
+    if k >= SIZES {
+        out[4..6].copy_from_slice(&((k - SIZES) as u16).to_le_bytes());
     }
     out
+}
+
+/// Puts a grid in the place of a label part's.
+fn put_grid(part: &mut [u8], grid: Grid) {
+    part[6..14].copy_from_slice(&grid.start.to_le_bytes());
+    part[14..SIZES].copy_from_slice(&grid.step.to_le_bytes());
 }
 
 /// One to four bytes changed anywhere, lengths and sizes with them, in one part or several: which fault comes first is the point.
@@ -67,7 +72,8 @@ pub fn changed_bytes(r: &mut Random, visit: &mut dyn FnMut(Call)) {
         if part.is_empty() {
             continue;
         }
-        let at = if r.one_in(2) { r.below(part.len().min(8)) } else { r.below(part.len()) };
+        let head = r.pick(&[8, SIZES]);
+        let at = if r.one_in(2) { r.below(part.len().min(head)) } else { r.below(part.len()) };
         part[at] = match r.below(4) {
             0 => r.word() as u8,
             1 => part[at].wrapping_add(1),
@@ -96,7 +102,7 @@ pub fn bad_keys(r: &mut Random, visit: &mut dyn FnMut(Call)) {
                     Series { labels: Labels { name: vec![], tags }, row: vec![0] }
                 })
                 .collect();
-            Vector { points: 1, series }
+            Vector::hourly(1, series)
         })
         .collect();
     let mut c = call(&plain(r.pick(&CARRIED)), &sides[0], &sides[1], ROOM);
@@ -111,7 +117,42 @@ pub fn bad_keys(r: &mut Random, visit: &mut dyn FnMut(Call)) {
     visit(c);
 }
 
-/// Sides of different p, empty ones included, with faults before them at times.
+/// Grids at the ends of their ranges, beyond them, or in them, mostly the same on both sides, with another fault beside them at
+/// times: which comes first is the point.
+pub fn grids(r: &mut Random, visit: &mut dyn FnMut(Call)) {
+    let mut c = whole(r);
+    let grid = edge_grid(r);
+    for part in [&mut c.left_labels, &mut c.right_labels] {
+        put_grid(part, if r.one_in(4) { edge_grid(r) } else { grid });
+    }
+    let left = r.one_in(2);
+    let (part, readings) = if left { (&mut c.left_labels, &mut c.left) } else { (&mut c.right_labels, &mut c.right) };
+    match r.below(16) {
+        0 => part.truncate(r.below(SIZES + 1)),
+        1 => part[..2].copy_from_slice(&r.pick(&[513u16, 65_535]).to_le_bytes()),
+        2 => part[2..4].copy_from_slice(&r.pick(&[1_025u16, 65_535]).to_le_bytes()),
+        3 => part.push(0),
+        4 => part[4] ^= 1,
+        5 => readings.push(0),
+        6 => part[2] ^= 1,
+        7 => c.query.push(0),
+        _ => {}
+    }
+    visit(c);
+}
+
+fn edge_grid(r: &mut Random) -> Grid {
+    let mut grid = random_grid(r);
+    if r.one_in(3) {
+        grid.start = r.pick(&[0, MAX_START, MAX_START + 1, 2 * MAX_START, 1 << 63, u64::MAX]);
+    }
+    if r.one_in(3) {
+        grid.step = r.pick(&[0, 1, MAX_STEP, MAX_STEP + 1, 1 << 31, u32::MAX]);
+    }
+    grid
+}
+
+/// Sides of different p, empty ones included, with faults before them at times; half of them on one grid.
 pub fn unequal_points(r: &mut Random, visit: &mut dyn FnMut(Call)) {
     let mut c = whole(r);
     let other = whole(r);
@@ -121,6 +162,10 @@ pub fn unequal_points(r: &mut Random, visit: &mut dyn FnMut(Call)) {
     } else {
         c.left_labels = other.left_labels;
         c.left = other.left;
+    }
+    if r.one_in(2) {
+        put_grid(&mut c.left_labels, Grid::HOURLY);
+        put_grid(&mut c.right_labels, Grid::HOURLY);
     }
     visit(c);
 }
@@ -155,7 +200,7 @@ fn numbered(n: usize, p: usize, key: &[u8]) -> Vector {
         let tags = vec![Tag { key: key.to_vec(), value: format!("{i:03}").into_bytes() }];
         series(Labels { name: vec![], tags }, p)
     };
-    Vector { points: p, series: (0..n).map(one).collect() }
+    Vector::hourly(p, (0..n).map(one).collect())
 }
 
 /// The limits of 01, at them and one beyond: in what is taken (3) and in what is answered (9).
@@ -176,7 +221,7 @@ pub fn limits(visit: &mut dyn FnMut(Call)) {
     visit(call(&add, &numbered(512, 1024, b"a"), &numbered(512, 1024, b"a"), big));
     for n in [32, 33] {
         for width in [0, 255] {
-            let side = Vector { points: 1, series: vec![series(tagged(n, width), 1)] };
+            let side = Vector::hourly(1, vec![series(tagged(n, width), 1)]);
             visit(call(&add, &side, &side, big));
         }
     }
@@ -199,10 +244,10 @@ pub fn limits(visit: &mut dyn FnMut(Call)) {
     doubled.series[22].labels = doubled.series[21].labels.clone();
     visit(call(&group(b"b"), &numbered(23, 1, b"a"), &doubled, big));
     for extra in 0..3 {
-        let many = Vector { points: 1, series: vec![series(tagged(31, 1), 1)] };
+        let many = Vector::hourly(1, vec![series(tagged(31, 1), 1)]);
         let other = |i: usize| Tag { key: format!("m{i}").into_bytes(), value: vec![] };
         let one = Labels { name: vec![], tags: (0..extra).map(other).collect() };
-        visit(call(&group(b"*"), &many, &Vector { points: 1, series: vec![series(one, 1)] }, big));
+        visit(call(&group(b"*"), &many, &Vector::hourly(1, vec![series(one, 1)]), big));
     }
     // `or` of 256 and 256, or 257: 512, or 513.
     for n in [256, 257] {
@@ -212,7 +257,7 @@ pub fn limits(visit: &mut dyn FnMut(Call)) {
     for value in [120, 124, 125, 126, 127, 255] {
         let many = numbered(512, 1, b"a");
         let long = Labels { name: vec![], tags: vec![Tag { key: b"b".to_vec(), value: vec![b'v'; value] }] };
-        visit(call(&group(b"b"), &many, &Vector { points: 1, series: vec![series(long, 1)] }, big));
+        visit(call(&group(b"b"), &many, &Vector::hourly(1, vec![series(long, 1)]), big));
     }
     for total in [65_534, 65_535, 65_536] {
         let (left, right) = sides_of_bytes(total);
@@ -231,7 +276,7 @@ fn sides_of_bytes(total: usize) -> (Vector, Vector) {
         let one = |i: usize| Series { labels: Labels { name: vec![], tags: tags(i) }, row: vec![MISSING] };
         let mut all: Vec<Series> = (0..bytes / 246).map(one).collect();
         all.last_mut().expect("a series").labels.name = vec![b'n'; bytes % 246];
-        Vector { points: 1, series: all }
+        Vector::hourly(1, all)
     };
     (side(b'a', 32_767), side(b'b', total - 32_767))
 }

@@ -1,5 +1,5 @@
 //! Each known difference with the smallest input that shows it, shown again at every run.
-use reference::{Call, Join, Labels, Matching, Operator, Query, Series, Vector, MISSING};
+use reference::{Call, Grid, Join, Labels, Matching, Operator, Query, Series, Vector, MISSING};
 
 use crate::cases::{call, labels, plain, ROOM};
 use crate::compare::{compare, Known, Verdict};
@@ -10,7 +10,7 @@ fn one(labels: Labels, row: &[f64]) -> Series {
 }
 
 fn side(points: usize, series: Vec<Series>) -> Vector {
-    Vector { points, series }
+    Vector::hourly(points, series)
 }
 
 fn tagged(key: &[u8], value: &[u8], row: &[f64]) -> Series {
@@ -45,6 +45,25 @@ pub fn examples(known: Known) -> Vec<(&'static str, Call)> {
                 given(&query(Operator::Or), side(1, vec![bare(&[1.0])]), side(2, vec![tagged(b"a", b"", &[1.0, 2.0])])),
             ),
         ],
+        Known::UnequalGrids => {
+            let on = |start: u64, step: u32, series: Vec<Series>| Vector {
+                grid: Grid { start, step },
+                ..side(series.first().map_or(0, |s| s.row.len()), series)
+            };
+            let one = || vec![bare(&[1.0])];
+            let two = || vec![bare(&[1.0, 1.0])];
+            let join = Query { join: Join::GroupRight, ..query(Operator::Add) };
+            vec![
+                ("two empty sides", given(&query(Operator::Add), on(0, 1, vec![]), on(0, 2, vec![]))),
+                ("+ from 0 and from 1", given(&query(Operator::Add), on(0, 1, one()), on(1, 1, one()))),
+                ("+ with steps of 1 and of 2", given(&query(Operator::Add), on(0, 1, two()), on(0, 2, two()))),
+                ("+ group_right() from 0 and from 1", given(&join, on(0, 1, one()), on(1, 1, one()))),
+                (
+                    "`or` from 0 and from 1, keys unlike",
+                    given(&query(Operator::Or), on(0, 1, one()), on(1, 1, vec![tagged(b"a", b"", &[1.0])])),
+                ),
+            ]
+        }
         Known::JoinUsesUp => {
             let join = Query { join: Join::GroupLeft, ..query(Operator::Add) };
             let two = side(1, vec![bare(&[1.0]), bare(&[2.0])]);
@@ -115,7 +134,7 @@ pub fn print() {
                 println!("    left   {} {:016x?}", hex(&call.left_labels), call.left);
                 println!("    right  {} {:016x?}", hex(&call.right_labels), call.right);
             }
-            println!("    01     {}", outcome(&reference::call(&call)));
+            println!("    rules  {}", outcome(&reference::call(&call)));
             println!("    Rust   {}", rust_outcome(&call));
         }
     }
@@ -142,8 +161,12 @@ fn rust_outcome(call: &Call) -> String {
     let (mut query, left, right) = reference::taken(&carried).expect("an example that is taken");
     query.op = Operator::ALL[op];
     match rust::run(rust::argument(&query, &left, &right).expect("UTF-8")) {
-        Given::Answer(series) if series.len() > 4 => format!("{} series", series.len()),
-        Given::Answer(series) => format!("{} series {:016x?}", series.len(), series.iter().map(|s| &s.row).collect::<Vec<_>>()),
+        Given::Answer { series, .. } if series.len() > 4 => format!("{} series", series.len()),
+        Given::Answer { series, timestamps } => {
+            let rows: Vec<_> = series.iter().map(|s| &s.row).collect();
+            let at = if left.grid == right.grid { String::new() } else { format!(" at {timestamps:?}") };
+            format!("{} series {rows:016x?}{at}", series.len())
+        }
         Given::Duplicate(message) | Given::OtherError(message) => message,
         Given::Panic => "panics".to_string(),
     }

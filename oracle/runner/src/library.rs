@@ -107,10 +107,10 @@ impl Library for Linked {
             &mut self.labels[BORDER..BORDER + call.room.labels],
             &mut self.readings[BORDER..BORDER + call.room.readings],
         );
-        let given = given.map(|a| (a.series, a.points, a.label_bytes)).map_err(|r| (r.number, r.fields));
+        let given = given.map(|a| (a.series, a.points, a.start, a.step, a.label_bytes)).map_err(|r| (r.number, r.fields));
         let (expected, labels, readings) = match reference::call(call) {
             Err(r) => (Err((r.number, r.fields)), vec![], vec![]),
-            Ok(a) => (Ok((a.series, a.points, a.labels.len())), a.labels, a.readings),
+            Ok(a) => (Ok((a.series, a.points, a.grid.start, a.grid.step, a.labels.len())), a.labels, a.readings),
         };
         let wrong_label = left_behind(&mut self.labels, &self.label_pattern, &labels);
         let wrong_reading = left_behind(&mut self.readings, &self.reading_pattern, &readings);

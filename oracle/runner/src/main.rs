@@ -118,6 +118,9 @@ fn beyond(o: &Options, visit: &mut dyn FnMut(&'static str, Call)) {
     for _ in 0..n {
         damage::bad_keys(&mut r, &mut |c| visit("bad keys", c));
     }
+    for _ in 0..2 * n {
+        damage::grids(&mut r, &mut |c| visit("grids", c));
+    }
     for _ in 0..n.div_ceil(4) {
         damage::unequal_points(&mut r, &mut |c| visit("sides of different p", c));
         damage::rooms(&mut r, &mut |c| visit("lent parts of every length", c));

@@ -5,12 +5,16 @@ use std::sync::Arc;
 use metricsql_parser::ast::Operator as RustOperator;
 use metricsql_parser::prelude::{BinModifier, Labels as RustLabels, VectorMatchCardinality, VectorMatchModifier};
 use metricsql_runtime::{exec_binop, MetricName, RuntimeError, Tag as RustTag, Timeseries};
-use reference::{Join, Labels, Matching, Operator, Query, Series, Tag, Vector};
+use reference::{Grid, Join, Labels, Matching, Operator, Query, Series, Tag, Vector};
 
 /// What the Rust gave.
 #[derive(Debug)]
 pub enum Given {
-    Answer(Vec<Series>),
+    Answer {
+        series: Vec<Series>,
+        /// Of each series.
+        timestamps: Vec<Vec<i64>>,
+    },
     /// Its message, which names the side and the two series.
     Duplicate(String),
     OtherError(String),
@@ -33,7 +37,10 @@ pub fn run(argument: Argument) -> Given {
     let Argument { op, modifier, left, right } = argument;
     match catch_unwind(AssertUnwindSafe(|| exec_binop(op, &modifier, left, right))) {
         Err(_) => Given::Panic,
-        Ok(Ok(series)) => Given::Answer(series.iter().map(back).collect()),
+        Ok(Ok(series)) => Given::Answer {
+            series: series.iter().map(back).collect(),
+            timestamps: series.iter().map(|ts| ts.timestamps.to_vec()).collect(),
+        },
         Ok(Err(RuntimeError::General(message))) if message.starts_with("duplicate time series on the ") => {
             Given::Duplicate(message)
         }
@@ -86,8 +93,13 @@ fn metric_name(labels: &Labels) -> Option<MetricName> {
     Some(MetricName { metric_group: text(&labels.name)?, tags: labels.tags.iter().map(tag).collect::<Option<_>>()? })
 }
 
+/// The times of a grid's points, as the Rust has them.
+pub fn timestamps(grid: Grid, points: usize) -> Vec<i64> {
+    grid.times(points).into_iter().map(|t| i64::try_from(t).expect("a time in its range")).collect()
+}
+
 fn timeseries(vector: &Vector) -> Option<Vec<Timeseries>> {
-    let timestamps = Arc::new((0..vector.points as i64).map(|i| i * 3_600_000).collect::<Vec<i64>>());
+    let timestamps = Arc::new(timestamps(vector.grid, vector.points));
     let one = |s: &Series| {
         let values = s.row.iter().map(|r| f64::from_bits(*r)).collect();
         Some(Timeseries { metric_name: metric_name(&s.labels)?, values, timestamps: Arc::clone(&timestamps) })

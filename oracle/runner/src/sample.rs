@@ -6,7 +6,7 @@ use std::fmt::Write;
 use std::path::Path;
 use std::process::ExitCode;
 
-use reference::{Call, Outcome};
+use reference::{Call, Grid, Outcome};
 
 use crate::cases::{random, Extent, CARRIED};
 use crate::compare::{compare, Agreement, Known, Verdict};
@@ -91,7 +91,8 @@ pub fn text(cases: &[(Call, Outcome)]) -> String {
             Err(r) => writeln!(out, "refused {} {} {}", r.number, r.fields[0], r.fields[1]),
             Ok(a) => {
                 let space = if a.labels.is_empty() { "" } else { " " };
-                writeln!(out, "answer {} {}\nlabels{space}{}\nreadings{}", a.series, a.points, hex(&a.labels), words(&a.readings))
+                let _ = writeln!(out, "answer {} {} {} {}", a.series, a.points, a.grid.start, a.grid.step);
+                writeln!(out, "labels{space}{}\nreadings{}", hex(&a.labels), words(&a.readings))
             }
         };
     }
@@ -109,14 +110,17 @@ pub fn binary(cases: &[(Call, Outcome)]) -> Vec<u8> {
 
 fn case(c: &Call, outcome: &Outcome) -> Vec<u8> {
     let numbers = match outcome {
-        Err(r) => [r.number, r.fields[0], r.fields[1], 0, 0, 0],
-        Ok(a) => [0, 0, 0, a.series as u64, a.points as u64, a.labels.len() as u64],
+        Err(r) => [r.number, r.fields[0], r.fields[1], 0, 0, 0, 0, 0],
+        Ok(a) => {
+            let Grid { start, step } = a.grid;
+            [0, 0, 0, a.series as u64, a.points as u64, start, u64::from(step), a.labels.len() as u64]
+        }
     };
     let (labels, readings) = outcome.as_ref().map_or((&[][..], &[][..]), |a| (&a.labels[..], &a.readings[..]));
     let mut out = Vec::new();
-    for n in [c.room.labels as u64, c.room.readings as u64].into_iter().chain(numbers) {
-        put_number(&mut out, n);
-    }
+    put_number(&mut out, c.room.labels as u64);
+    put_number(&mut out, c.room.readings as u64);
+    put_part(&mut out, &bytes(&numbers));
     for part in [&c.query, &c.left_labels, &bytes(&c.left), &c.right_labels, &bytes(&c.right), labels, &bytes(readings)] {
         put_part(&mut out, part);
     }

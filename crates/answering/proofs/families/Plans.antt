@@ -19,7 +19,7 @@ use Rattle.plan.specs.Sets.{ruleBy, workFor, setRows, setSeries}
 use Rattle.labels.specs.Names.{namesOf}
 use Rattle.query.specs.declared.Query.{Query}
 use Rattle.query_rules.specs.Allowances.{allowedBy}
-use Rattle.side_parts.specs.Lent.{Sides, rowSides, BothHeld}
+use Rattle.side_parts.specs.Lent.{Sides, rowsOnly, BothHeld}
 use Rattle.index_lists.specs.Places.{NotedAll}
 use Rattle.answers.specs.declared.Planned.{Planned}
 use Rattle.answers.specs.declared.Planned.the-variants as P
@@ -83,7 +83,7 @@ module _ (first second : List ℕ) (s : Sides) (held : BothHeld s) (q : Query) (
 pub pairs-planned : (rule : Rule) (first second : List ℕ) (s : Sides) → BothHeld s → (q : Query) → rule ≡ R.Pairs q
     → (allowance : ℕ) → allowance ≡ allowedBy q → (before codes marks : List ℕ) (r : Planned)
     → length before ≡ maxSeries → length marks ≡ 4096
-    → PlannedAs (pairsClash allowance (rowSides (s .shape .points) (s .left .keys) (s .left .rows) (s .right .keys) (s .right .rows)) 0 (s .left .keys))
+    → PlannedAs (pairsClash allowance (rowsOnly s) 0 (s .left .keys))
     (pairCodes s) [] before codes r
     → RulePlanned rule first second s before codes marks r
 pairs-planned rule first second s held q e allowance a before codes marks r long marks-long planned =

@@ -2,7 +2,7 @@
 use mathlib.Core.Path.{refl}
 use Rattle.keyed_sides.specs.TakenSides.{took}
 use Rattle.binop_vector_vector.proofs.Stages.{refused-number, taken-number, asked, ran-refused, ran-asked, ran-fault, ran-taken}
-use Rattle.binop_vector_vector.proofs.Stages.{ran-apart, ran-alike, held-alike}
+use Rattle.binop_vector_vector.proofs.Stages.{ran-apart, ran-on-two-grids, ran-alike, held-alike}
 use borrow.Author.Needs.{needs}
 use Rattle.binop_vector_vector.proofs.exec_binop.Statement.{statement}
 use Rattle.binop_vector_vector.proofs.exec_binop.Tie as tie
@@ -56,9 +56,25 @@ returns-4 c =
     (start .before .shared-slice-known4 .given) (start .shared-slice-known5 .given))
     _ _ _ (c .if1 .taken))
 
+returns-5 : tie.Need-returns-5
+returns-5 c =
+    let tested = c .before in
+    let r = tested .before .before .before .before .before in
+    let l = r .before .before .before .before .before in
+    let q = l .before .before .before .before .before in
+    let start = q .before .before .before .before .before in
+    ran-asked _ _ (q .before .before .take-query .ensures) _ _ _ _ _ _ _ (q .asked .given .1) _ _ _
+    (ran-on-two-grids _ _ _ _ _
+    (took 0 _ _ _ _ _ (l .before .before .take-vector .ensures) refl _ _ (l .l .given .1)
+    (start .before .before .before .shared-slice-known2 .given) (start .before .before .shared-slice-known3 .given))
+    _ _ _ _ _
+    (took 1 _ _ _ _ _ (r .before .before .take-vector2 .ensures) refl _ _ (r .r .given .1)
+    (start .before .shared-slice-known4 .given) (start .shared-slice-known5 .given))
+    _ _ _ (tested .before .if1 .left) _ (tested .grids-differ .ensures) (c .if2 .taken))
+
 add-e : tie.Need-add-e
 add-e c =
-    let r = c .before .before .before .before in
+    let r = c .before .before .before .before .before .before in
     let l = r .before .before .before .before .before in
     let q = l .before .before .before .before .before in
     let start = q .before .before .before .before .before in
@@ -67,43 +83,43 @@ add-e c =
 
 add-f : tie.Need-add-f
 add-f c =
-    let r = c .before .before .before .before in
+    let r = c .before .before .before .before .before .before in
     let l = r .before .before .before .before .before in
     let q = l .before .before .before .before .before in
     let start = q .before .before .before .before .before in
     (took 1 _ _ _ _ _ (r .before .before .take-vector2 .ensures) refl _ _ (r .r .given .1)
     (start .before .shared-slice-known4 .given) (start .shared-slice-known5 .given)) .fits
 
-sub-t24 : tie.Need-sub-t24
-sub-t24 c =
-    let r = c .before .before .before .before in
+sub-t25 : tie.Need-sub-t25
+sub-t25 c =
+    let r = c .before .before .before .before .before .before in
     let l = r .before .before .before .before .before in
     let q = l .before .before .before .before .before in
     let start = q .before .before .before .before .before in
     (took 0 _ _ _ _ _ (l .before .before .take-vector .ensures) refl _ _ (l .l .given .1)
     (start .before .before .before .shared-slice-known2 .given) (start .before .before .shared-slice-known3 .given)) .sizes
 
-part-t25-start : tie.Need-part-t25-start
-part-t25-start c =
-    let r = c .before .before .before .before in
+part-t26-start : tie.Need-part-t26-start
+part-t26-start c =
+    let r = c .before .before .before .before .before .before in
     let l = r .before .before .before .before .before in
     let q = l .before .before .before .before .before in
     let start = q .before .before .before .before .before in
     (took 0 _ _ _ _ _ (l .before .before .take-vector .ensures) refl _ _ (l .l .given .1)
     (start .before .before .before .shared-slice-known2 .given) (start .before .before .shared-slice-known3 .given)) .sizes
 
-sub-t28 : tie.Need-sub-t28
-sub-t28 c =
-    let r = c .before .before .before .before .before in
+sub-t29 : tie.Need-sub-t29
+sub-t29 c =
+    let r = c .before .before .before .before .before .before .before in
     let l = r .before .before .before .before .before in
     let q = l .before .before .before .before .before in
     let start = q .before .before .before .before .before in
     (took 1 _ _ _ _ _ (r .before .before .take-vector2 .ensures) refl _ _ (r .r .given .1)
     (start .before .shared-slice-known4 .given) (start .shared-slice-known5 .given)) .sizes
 
-part-t29-start : tie.Need-part-t29-start
-part-t29-start c =
-    let r = c .before .before .before .before .before in
+part-t30-start : tie.Need-part-t30-start
+part-t30-start c =
+    let r = c .before .before .before .before .before .before .before in
     let l = r .before .before .before .before .before in
     let q = l .before .before .before .before .before in
     let start = q .before .before .before .before .before in
@@ -112,7 +128,7 @@ part-t29-start c =
 
 array-share-prefix-left-at : tie.Need-array-share-prefix-left-at
 array-share-prefix-left-at c =
-    let r = c .before .before .before .before .before .before in
+    let r = c .before .before .before .before .before .before .before .before in
     let l = r .before .before .before .before .before in
     let q = l .before .before .before .before .before in
     let start = q .before .before .before .before .before in
@@ -121,7 +137,7 @@ array-share-prefix-left-at c =
 
 slice-aggregate-run : tie.Need-slice-aggregate-run
 slice-aggregate-run c =
-    let r = c .before .before .before .before .before .before .before in
+    let r = c .before .before .before .before .before .before .before .before .before in
     let l = r .before .before .before .before .before in
     let q = l .before .before .before .before .before in
     let start = q .before .before .before .before .before in
@@ -130,7 +146,7 @@ slice-aggregate-run c =
 
 array-share-prefix-right-at : tie.Need-array-share-prefix-right-at
 array-share-prefix-right-at c =
-    let r = c .before .before .before .before .before .before .before in
+    let r = c .before .before .before .before .before .before .before .before .before in
     let l = r .before .before .before .before .before in
     let q = l .before .before .before .before .before in
     let start = q .before .before .before .before .before in
@@ -139,7 +155,7 @@ array-share-prefix-right-at c =
 
 slice-aggregate-run-2 : tie.Need-slice-aggregate-run-2
 slice-aggregate-run-2 c =
-    let r = c .before .before .before .before .before .before .before .before in
+    let r = c .before .before .before .before .before .before .before .before .before .before in
     let l = r .before .before .before .before .before in
     let q = l .before .before .before .before .before in
     let start = q .before .before .before .before .before in
@@ -148,7 +164,7 @@ slice-aggregate-run-2 c =
 
 run-requires : tie.Need-run-requires
 run-requires c κs =
-    let test = c .before .before .before .before .before .before in
+    let test = c .before .before .before .before .before .before .before .before in
     let r = test .before .before .before .before in
     let l = r .before .before .before .before .before in
     let q = l .before .before .before .before .before in
@@ -163,10 +179,12 @@ run-requires c κs =
       (left .held, held-alike _ _ _ _ _ (test .if1 .left) (right .held)),
     )
 
-returns-5 : tie.Need-returns-5
-returns-5 c =
+returns-6 : tie.Need-returns-6
+returns-6 c =
     let ran = c .before .before .before .before in
-    let test = ran .before .before .before .before .before .before .before in
+    let apart = ran .before .before .before .before .before .before .before in
+    let tested = apart .before in
+    let test = tested .before in
     let r = test .before .before .before .before in
     let l = r .before .before .before .before .before in
     let q = l .before .before .before .before .before in
@@ -178,7 +196,7 @@ returns-5 c =
     _ _ _ _ _
     (took 1 _ _ _ _ _ (r .before .before .take-vector2 .ensures) refl _ _ (r .r .given .1)
     (start .before .shared-slice-known4 .given) (start .shared-slice-known5 .given))
-    _ _ _ (test .if1 .left) _ _ _ (ran .run .ensures))
+    _ _ _ (test .if1 .left) _ (tested .grids-differ .ensures) (apart .if2 .left) _ _ _ (ran .run .ensures))
 
 pub exec-binop-spec : {M : Type 1} → statement M
 exec-binop-spec =
@@ -197,13 +215,15 @@ exec-binop-spec =
     fault-of-requires-2
     returns-3
     returns-4
+    (λ c κs. search needs)
+    returns-5
     add-e
     add-f
-    sub-t24
-    part-t25-start
+    sub-t25
+    part-t26-start
     (λ c. search needs)
-    sub-t28
-    part-t29-start
+    sub-t29
+    part-t30-start
     (λ c. search needs)
     array-share-prefix-left-at
     slice-aggregate-run
@@ -212,4 +232,4 @@ exec-binop-spec =
     run-requires
     (λ c. search needs)
     (λ c. search needs)
-    returns-5)
+    returns-6)

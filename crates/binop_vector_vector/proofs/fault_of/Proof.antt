@@ -1,5 +1,5 @@
 -- `fault_of` meets its contract. Assumes nothing.
-use Rattle.binop_vector_vector.proofs.Stages.{fault-cut, fault-bad-key, fault-readings, fault-none}
+use Rattle.binop_vector_vector.proofs.Stages.{fault-cut, fault-bad-key, fault-readings, fault-grid, fault-none}
 use borrow.Author.Needs.{needs}
 use Rattle.binop_vector_vector.proofs.fault_of.Statement.{statement}
 use Rattle.binop_vector_vector.proofs.fault_of.Tie as tie
@@ -12,7 +12,9 @@ fault-of-spec =
     (λ c. search needs)
     (λ c. search needs)
     (λ c. search needs)
+    (λ c. search needs)
     (λ c. search fault-cut)
     (λ c. search fault-bad-key)
     (λ c. search fault-readings)
-    (λ c. fault-none (c .before .before .args .taken) (c .before .before .pre) (c .before .match .keys4)))
+    (λ c. search fault-grid)
+    (λ c. fault-none (c .before .before .args .taken) (c .before .before .pre) (c .before .match .keys5)))

@@ -4,7 +4,7 @@ use Prim.Native.Nat.{_-_}
 use mathlib.Core.Path.{refl}
 use native.Mathlib.Omega.{arith}
 use lib.ListN.{length}
-use Rattle.side_parts.specs.Lent.{sides, lent, ofPoints}
+use Rattle.side_parts.specs.Lent.{sides, lent, shapeOf}
 use Rattle.join_series.specs.Works.{manySide, workBy}
 use Rattle.join_plan.proofs.Planning.{Planning, planning-starts, planning-skip, planning-rows, planning-failed}
 use Rattle.join_plan.proofs.Planning.{planning-ends, marks-end, marks-failed, work-part, work-again, code}
@@ -15,13 +15,13 @@ use Rattle.join_plan.proofs.plan_join.Statement.{statement}
 use Rattle.join_plan.proofs.plan_join.Tie as tie
 
 abbrev Inv-loop : tie.InvT-loop
-Inv-loop w lists t4 t5 t6 t7 codes₀ marks₀ labels at rows many one count p ends leads₀ lasts₀ hashes₀ work₀ n₀ i₀ codes
+Inv-loop w lists shape t4 t5 t6 t7 codes₀ marks₀ labels at rows many one count ends leads₀ lasts₀ hashes₀ work₀ n₀ i₀ codes
     marks leads lasts hashes work n i =
-    Planning (workBy w lists) (manySide w) (sides (ofPoints p) t4 t5 t6 t7) ends codes₀ marks₀ leads lasts hashes work
+    Planning (workBy w lists) (manySide w) (sides (shapeOf shape) t4 t5 t6 t7) ends codes₀ marks₀ leads lasts hashes work
     codes marks n i
 
 abbrev μ-loop : tie.MeasureT-loop
-μ-loop w lists t4 t5 t6 t7 codes₀ marks₀ labels at rows many one count p ends leads₀ lasts₀ hashes₀ work₀ n₀ i₀ codes
+μ-loop w lists shape t4 t5 t6 t7 codes₀ marks₀ labels at rows many one count ends leads₀ lasts₀ hashes₀ work₀ n₀ i₀ codes
     marks leads lasts hashes work n i =
     length (lent t6 0) - i
 

@@ -1,5 +1,15 @@
--- Names for the readings of the worked instances. Assumes nothing.
+-- Names for the readings of the worked instances, and their grid. Assumes nothing.
 use Prim.Native.Nat.{ℕ}
+use mathlib.Core.List.{List, _∷_}
+use Rattle.model.specs.Vector.{Shape}
+
+-- so many points, a minute apart, from the first second on
+abbrev pub minutely : ℕ → Shape
+minutely p = record { points = p; start = 1000; step = 60000 }
+
+-- that grid's bytes, in front of a label array
+abbrev pub onMinutes : List ℕ → List ℕ
+onMinutes array = 232 ∷ 3 ∷ 0 ∷ 0 ∷ 0 ∷ 0 ∷ 0 ∷ 0 ∷ 96 ∷ 234 ∷ 0 ∷ 0 ∷ array
 
 abbrev pub zero : ℕ
 zero = 0x0000_0000_0000_0000

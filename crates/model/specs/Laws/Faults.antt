@@ -10,7 +10,7 @@ use Rattle.model.specs.Limits.{maxSeries, maxPoints, sizesLength}
 use Rattle.model.specs.Labels.{Labels}
 use Rattle.model.specs.Record.{Decoded, decoded, cut, badKey, decode}
 use Rattle.model.specs.Vector.{Shape, Vector, TakenVector, vector, faulty, Records, records, badRecord, withRecord, onDecoded, recordsIn}
-use Rattle.model.specs.Vector.{seriesOf, withReadings, withSizes, twoBytesAt, takeVector}
+use Rattle.model.specs.Vector.{seriesOf, withReadings, withArray, goodGrid, withGrid, withSizes, twoBytesAt, shapeIn, takeVector}
 
 not-bad : {X : Type 0} (ls : List Labels) (k i : ℕ) → records ls ≡ badRecord k i → X
 not-bad ls k i e = absurd (let z : _≡_ {A = ℕ} 0 1 = cc in omega arith)
@@ -46,27 +46,46 @@ cond-side : (b : Bool) (side : ℕ) (a c : TakenVector) → onSide side (cond b 
 cond-side true side a c = refl
 cond-side false side a c = refl
 
-readings-side : (side other n : ℕ) (shape : Shape) (x : List ℕ) (o : Records) → onSide side (withReadings other n shape x o) ≡ withReadings side n shape x o
+readings-side : (side other n : ℕ) (shape : Shape) (x : List ℕ) (o : Records) → onSide side (withReadings other n shape x o)
+    ≡ withReadings side n shape x o
 readings-side side other n shape x (records ls) = cond-side (eqb (length x) (n * shape .points)) side _ _
 readings-side side other n shape x (badRecord k i) = refl
+
+array-side : (side other n : ℕ) (shape : Shape) (size : ℕ) (array x : List ℕ)
+    → onSide side (withArray other n shape size array x) ≡ withArray side n shape size array x
+array-side side other n shape size array x =
+    let sized = eqb (length array) size in
+    cond-side sized side (withReadings other n shape x (recordsIn n 0 array)) (faulty 3 other 0)
+    ∙ ap (λ (t : TakenVector). cond sized t (faulty 3 side 0)) (readings-side side other n shape x (recordsIn n 0 array))
+
+grid-side : (side other n : ℕ) (shape : Shape) (size : ℕ) (array x : List ℕ)
+    → onSide side (withGrid other n shape size array x) ≡ withGrid side n shape size array x
+grid-side side other n shape size array x =
+    cond-side (goodGrid shape) side (withArray other n shape size array x) (faulty 11 other 0)
+    ∙ ap (λ (t : TakenVector). cond (goodGrid shape) t (faulty 11 side 0)) (array-side side other n shape size array x)
+
+sizes-side : (side other n : ℕ) (shape : Shape) (size : ℕ) (array x : List ℕ)
+    → onSide side (withSizes other n shape size array x) ≡ withSizes side n shape size array x
+sizes-side side other n shape size array x =
+    let few = leb n maxSeries && leb (shape .points) maxPoints in
+    cond-side few side (withGrid other n shape size array x) (faulty 3 other 0)
+    ∙ ap (λ (t : TakenVector). cond few t (faulty 3 side 0)) (grid-side side other n shape size array x)
 
 pub take-side : (side other : ℕ) (s x : List ℕ) → takeVector side s x ≡ onSide side (takeVector other s x)
 unfolding takeVector
 take-side side other s x =
+    let whole = leb sizesLength (length s) in
     let n = twoBytesAt s 0 in
-    let shape : Shape = record { points = twoBytesAt s 2 } in
-    let good = leb n maxSeries && (leb (shape .points) maxPoints && eqb (length (drop sizesLength s)) (twoBytesAt s 4)) in
-    let sized = cond-side good side (withReadings other n shape x (recordsIn n 0 (drop sizesLength s))) (faulty 3 other 0)
-    ∙ ap (λ (t : TakenVector). cond good t (faulty 3 side 0)) (readings-side side other n shape x (recordsIn n 0 (drop sizesLength s))) in
-    sym (cond-side (leb sizesLength (length s)) side (withSizes other n shape (twoBytesAt s 4) (drop sizesLength s) x) (faulty 3 other 0)
-    ∙ ap (λ (t : TakenVector). cond (leb sizesLength (length s)) t (faulty 3 side 0)) sized)
+    sym (cond-side whole side (withSizes other n (shapeIn s) (twoBytesAt s 4) (drop sizesLength s) x) (faulty 3 other 0)
+    ∙ ap (λ (t : TakenVector). cond whole t (faulty 3 side 0)) (sizes-side side other n (shapeIn s) (twoBytesAt s 4) (drop sizesLength s) x))
 
--- a fault has 01's numbers; number 5 has the place 0
+-- a fault has 01's numbers, or 02's 11; numbers 5 and 11 have the place 0
 
 pub data Fault (k i : ℕ) : Type 0 where
   cutFault : k ≡ 3 → Fault k i
   keyFault : k ≡ 4 → Fault k i
   readingsFault : k ≡ 5 → i ≡ 0 → Fault k i
+  gridFault : k ≡ 11 → i ≡ 0 → Fault k i
 
 fault-three : (side other k i j : ℕ) → faulty 3 side j ≡ faulty k other i → Fault k i
 fault-three side other k i j e = cutFault (let z : 3 ≡ k = cc in sym z)
@@ -78,7 +97,8 @@ readings-fault : (side other n : ℕ) (shape : Shape) (s x : List ℕ) (k i : �
     → withReadings side n shape x o ≡ faulty k other i → Fault k i
 readings-fault side other n shape s x k i (records ls) f e = go (eqb (length x) (n * shape .points)) e
   where
-    go : (b : Bool) → cond b (vector (record { shape = shape; series = seriesOf (shape .points) ls x })) (faulty 5 side 0) ≡ faulty k other i → Fault k i
+    go : (b : Bool) → cond b (vector (record { shape = shape; series = seriesOf (shape .points) ls x })) (faulty 5 side 0)
+        ≡ faulty k other i → Fault k i
     go true e = not-faulty _ k other i e
     go false e = readingsFault (let z : 5 ≡ k = cc in sym z) (let z : 0 ≡ i = cc in sym z)
 readings-fault side other n shape s x k i (badRecord m j) f e = go (bad-number n 0 s m j f)
@@ -97,30 +117,43 @@ take-fault side other s x k i e = go (leb sizesLength (length s)) e
     n : ℕ
     n = twoBytesAt s 0
 
-    shape : Shape
-    shape = record { points = twoBytesAt s 2 }
+    array : List ℕ
+    array = drop sizesLength s
 
-    sized : (b : Bool) → cond b (withReadings side n shape x (recordsIn n 0 (drop sizesLength s))) (faulty 3 side 0) ≡ faulty k other i → Fault k i
-    sized true e = readings-fault side other n shape (drop sizesLength s) x k i (recordsIn n 0 (drop sizesLength s)) refl e
+    arrayed : (b : Bool) → cond b (withReadings side n (shapeIn s) x (recordsIn n 0 array)) (faulty 3 side 0) ≡ faulty k other i → Fault k i
+    arrayed true e = readings-fault side other n (shapeIn s) array x k i (recordsIn n 0 array) refl e
+    arrayed false e = fault-three side other k i 0 e
+
+    gridded : (b : Bool) → cond b (withArray side n (shapeIn s) (twoBytesAt s 4) array x) (faulty 11 side 0) ≡ faulty k other i → Fault k i
+    gridded true e = arrayed (eqb (length array) (twoBytesAt s 4)) e
+    gridded false e = gridFault (let z : 11 ≡ k = cc in sym z) (let z : 0 ≡ i = cc in sym z)
+
+    sized : (b : Bool) → cond b (withGrid side n (shapeIn s) (twoBytesAt s 4) array x) (faulty 3 side 0) ≡ faulty k other i → Fault k i
+    sized true e = gridded (goodGrid (shapeIn s)) e
     sized false e = fault-three side other k i 0 e
 
-    go : (b : Bool) → cond b (withSizes side n shape (twoBytesAt s 4) (drop sizesLength s) x) (faulty 3 side 0) ≡ faulty k other i → Fault k i
-    go true e = sized (leb n maxSeries && (leb (shape .points) maxPoints && eqb (length (drop sizesLength s)) (twoBytesAt s 4))) e
+    go : (b : Bool) → cond b (withSizes side n (shapeIn s) (twoBytesAt s 4) array x) (faulty 3 side 0) ≡ faulty k other i → Fault k i
+    go true e = sized (leb n maxSeries && leb (shapeIn s .points) maxPoints) e
     go false e = fault-three side other k i 0 e
 
--- of the vector on a side: its number is 3 to 5, and it names the side
-pub record FaultOf (side k at : ℕ) : Type 0 where
-  pub least : 3 ≤ k
-  pub most : k ≤ 5
+-- its number: 3 to 5, or 11 with the place 0
+pub data FaultNumber (k i : ℕ) : Type 0 where
+  three-to-five : 3 ≤ k → k ≤ 5 → FaultNumber k i
+  eleven : k ≡ 11 → i ≡ 0 → FaultNumber k i
+
+-- of the vector on a side: it names the side
+pub record FaultOf (side k at i : ℕ) : Type 0 where
+  pub number : FaultNumber k i
   pub names : at ≡ side
 
-pub fault-of : (side : ℕ) (s x : List ℕ) (k at i : ℕ) → takeVector side s x ≡ faulty k at i → FaultOf side k at
-fault-of side s x k at i e = go (take-fault side at s x k i e)
+pub fault-of : (side : ℕ) (s x : List ℕ) (k at i : ℕ) → takeVector side s x ≡ faulty k at i → FaultOf side k at i
+fault-of side s x k at i e = record { number = go (take-fault side at s x k i e); names = same }
   where
     same : at ≡ side
     same = let z : faulty k at i ≡ faulty k side i = sym e ∙ take-side side side s x ∙ ap (onSide side) e in cc
 
-    go : Fault k i → FaultOf side k at
-    go (cutFault z) = record { least = omega (arith, z); most = omega (arith, z); names = same }
-    go (keyFault z) = record { least = omega (arith, z); most = omega (arith, z); names = same }
-    go (readingsFault z w) = record { least = omega (arith, z); most = omega (arith, z); names = same }
+    go : Fault k i → FaultNumber k i
+    go (cutFault z) = three-to-five (omega (arith, z)) (omega (arith, z))
+    go (keyFault z) = three-to-five (omega (arith, z)) (omega (arith, z))
+    go (readingsFault z w) = three-to-five (omega (arith, z)) (omega (arith, z))
+    go (gridFault z w) = eleven z w

@@ -6,6 +6,7 @@ use Rattle.model.specs.Laws.Query.{encodeList}
 use Rattle.model.specs.Reading.{noReading}
 use Rattle.model.specs.Labels.{Tag}
 use Rattle.model.specs.Vector.{Series, labelPart, labelBytes, readingsOf}
+use Rattle.model.specs.Examples.Numbers.{minutely}
 use Rattle.semantics.specs.Call.{Outcome, answered, call}
 
 -- 01: "Missing", written N: the one that rules write. `payload` is another.
@@ -57,10 +58,10 @@ ask o m j flags names joinNames = o ∷ m ∷ j ∷ flags ∷ (encodeList names 
 abbrev pub plainly : ℕ → List ℕ
 plainly o = ask o 0 0 0 [] []
 
--- a call on sides of so many points, with `vecop`'s output parts
+-- a call on sides of so many points on one grid, with `vecop`'s output parts
 abbrev pub on : List ℕ → ℕ → List Series → List Series → Outcome
 on query points ls rs =
-    call query (labelPart (record { points = points }) ls) (readingsOf ls) (labelPart (record { points = points }) rs) (readingsOf rs) 65535 8192
+    call query (labelPart (minutely points) ls) (readingsOf ls) (labelPart (minutely points) rs) (readingsOf rs) 65535 8192
 
 abbrev pub gives : ℕ → List Series → Outcome
-gives points ss = answered (length ss) points (labelBytes ss) (readingsOf ss)
+gives points ss = answered (length ss) (minutely points) (labelBytes ss) (readingsOf ss)

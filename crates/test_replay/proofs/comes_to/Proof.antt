@@ -40,5 +40,6 @@ comes-to-spec =
     (λ c κs. tt)
     (λ c κs. tt)
     (λ c κs. tt)
+    (λ c κs. tt)
     (λ c. tt)
     (λ c. tt))

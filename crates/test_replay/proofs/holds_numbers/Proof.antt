@@ -5,10 +5,10 @@ use Rattle.test_replay.proofs.holds_numbers.Statement.{statement}
 use Rattle.test_replay.proofs.holds_numbers.Tie as tie
 
 abbrev Inv-loop : tie.InvT-loop
-Inv-loop result case i₀ i = i ≤ 6
+Inv-loop result want i₀ i = i ≤ 8
 
 abbrev μ-loop : tie.MeasureT-loop
-μ-loop result case i₀ i = 6 - i
+μ-loop result want i₀ i = 8 - i
 
 pub holds-numbers-spec : {M : Type 1} → statement M
 holds-numbers-spec =
@@ -19,9 +19,7 @@ holds-numbers-spec =
     (λ c. search needs)
     (λ c. search needs)
     (λ c. search needs)
-    (λ c. search needs)
-    (λ c. search needs)
-    (λ c κs. tt)
+    (λ c κs. search needs)
     (λ c. search needs)
     (λ c. search needs)
     (λ c. search needs)

@@ -6,7 +6,7 @@ use Rattle.test_replay.proofs.main.Statement.{statement}
 use Rattle.test_replay.proofs.main.Tie as tie
 
 slice-aggregate-read-full : tie.Need-slice-aggregate-read-full
-slice-aggregate-read-full c = sym (length-replicate {A = ℕ} 262144 0)
+slice-aggregate-read-full c = sym (length-replicate {A = ℕ} 524288 0)
 
 array-share-prefix-input : tie.Need-array-share-prefix-input
 array-share-prefix-input c = c .before .read-full .ensures .0

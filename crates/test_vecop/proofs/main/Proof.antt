@@ -16,10 +16,10 @@ slice-aggregate-run : tie.Need-slice-aggregate-run
 slice-aggregate-run c = c .before .before .read-full .ensures .1
 
 slice-aggregate-run-2 : tie.Need-slice-aggregate-run-2
-slice-aggregate-run-2 c = sym (length-replicate {A = ℕ} 335918 0)
+slice-aggregate-run-2 c = sym (length-replicate {A = ℕ} 335960 0)
 
 run-requires : tie.Need-run-requires
-run-requires c κs = le-of-eq (sym (length-replicate {A = ℕ} 335918 0))
+run-requires c κs = le-of-eq (sym (length-replicate {A = ℕ} 335960 0))
 
 pub main-spec : {M : Type 1} → statement M
 main-spec =

@@ -15,7 +15,8 @@ use Rattle.semantics.specs.Call.{Outcome, refused, answered, verdict, told, con
 use Rattle.theorems.specs.Claims.Outcomes.{Taken, written, seriesIn}
 use Rattle.theorems.specs.Claims.Dealing.{Rising, Renumber, movedVerdict, Deal, secondPile, pile, wholePlaces, Dealt, weave, earlierOf}
 
--- 01: Each pile's call has the whole call's query, p and lengths of output parts. A call on sides as they are encoded.
+-- 01: Each pile's call has the whole call's query, p and lengths of output parts. 02: The pile rule supposes one grid for
+-- all. A call on sides as they are encoded.
 abbrev pub callOn : List ℕ → Shape → List Series → List Series → ℕ → ℕ → Outcome
 callOn s shape ls rs labelRoom room = call s (labelPart shape ls) (readingsOf ls) (labelPart shape rs) (readingsOf rs) labelRoom room
 
@@ -44,7 +45,8 @@ pub record DuplicateOf (v w : Verdict) (whole : Outcome) : Type 0 where
   pub first : firstDuplicate v w ≡ some which
   pub is : whole ≡ told which
 
--- The whole answer is the piles' answers merged in document 01's order, bit for bit, every label record and every row; n and label length are the sums.
+-- The whole answer is the piles' answers merged in document 01's order, bit for bit, every label record and every row; n and
+-- label length are the sums.
 -- The verdicts are the piles', in whole places.
 pub record MergedAnswer (v w : Verdict) (shape : Shape) (whole first second : Outcome) : Type 0 where
   pub l : List (Ranked Rank Series)

@@ -17,10 +17,10 @@ slice-aggregate-vecop : tie.Need-slice-aggregate-vecop
 slice-aggregate-vecop c = c .before .before .read-full .ensures .1
 
 slice-aggregate-vecop-2 : tie.Need-slice-aggregate-vecop-2
-slice-aggregate-vecop-2 c = sym (length-replicate {A = ℕ} 335918 0)
+slice-aggregate-vecop-2 c = sym (length-replicate {A = ℕ} 335960 0)
 
 vecop-requires : tie.Need-vecop-requires
-vecop-requires c κs = le-of-eq (sym (length-replicate {A = ℕ} 335918 0))
+vecop-requires c κs = le-of-eq (sym (length-replicate {A = ℕ} 335960 0))
 
 array-share-prefix-text : tie.Need-array-share-prefix-text
 array-share-prefix-text c = words-within _ _ _ _ (c .before .vecop .ensures)

@@ -8,8 +8,10 @@ use lib.Seq.{drop-cons, drop-drop, take-all}
 use borrow.Author.Tests.{le-leb, lt-leb}
 use Rattle.fields.specs.declared.Place.{Place}
 use Rattle.fields.specs.declared.Place.the-variants.{At, Short}
-use Rattle.vecop_run.specs.frame.Frames.{part, cutPart, fourBytesAt, readPart, ending, framed, maxInput}
-use Rattle.vecop_run.specs.frame.Found.{Read, PartFound, PartsFound}
+use Rattle.vecop_run.specs.frame.Frames.{part, cutPart, readPart, ending, framed, maxInput}
+use Rattle.model.specs.Vector.{fourBytesAt}
+use Rattle.little_endian.specs.Numbers.{Read}
+use Rattle.vecop_run.specs.frame.Found.{PartFound, PartsFound}
 use Rattle.vecop_run.specs.declared.frame.Parts.the-variants.{Three, Unreadable}
 use Rattle.vecop_run.proofs.frame.Numbers.{four-here}
 
@@ -46,7 +48,8 @@ module _ (s : List ℕ) (at : ℕ) (ha : at ≤ length s) where
     unfolding readPart
     part-cut h =
         record {
-          read = rw (le-leb 4 (length (drop at s)) (omega (arith, length-drop at s)), size, lt-leb n (length (drop 4 (drop at s))) (omega (arith, whole)));
+          read = rw
+              (le-leb 4 (length (drop at s)) (omega (arith, length-drop at s)), size, lt-leb n (length (drop 4 (drop at s))) (omega (arith, whole)));
           within = tt;
         }
 

@@ -9,13 +9,13 @@ use lib.Seq.{drop-drop, take-all}
 use lib.Dec.{eqb}
 use borrow.Author.Tests.{eq-eqb, ne-eqb}
 use Rattle.model.specs.Limits.{sizesLength}
-use Rattle.model.specs.Vector.{twoBytesAt}
+use Rattle.model.specs.Vector.{twoBytesAt, eightBytesAt}
+use Rattle.little_endian.specs.Numbers.{Read}
 use Rattle.writing.specs.Written.{Put}
 use Rattle.writing.proofs.Written.{Rest, rest-start, rest-put, rest-done, put-byte-done, written-none}
-use Rattle.vecop_run.specs.frame.Frames.{eightBytesAt}
 use Rattle.vecop_run.specs.frame.Sides.{labelsSize, readingBytes, readingCount, wordsIn, otherThan, readingsIn}
 use Rattle.vecop_run.specs.frame.SideLaws.{words-length}
-use Rattle.vecop_run.specs.frame.Found.{Read, Split}
+use Rattle.vecop_run.specs.frame.Found.{Split}
 use Rattle.vecop_run.proofs.frame.Numbers.{eight-here}
 
 split-all : (v : List ℕ) → length v ≤ labelsSize v → Split v (length v)
@@ -26,7 +26,7 @@ split-all v h =
       within = omega arith;
     }
 
-pub split-short : (v : List ℕ) → length v < 6 → Split v (length v)
+pub split-short : (v : List ℕ) → length v < sizesLength → Split v (length v)
 split-short v h = split-all v (omega arith)
 
 module _ (v : List ℕ) (size : ℕ) (hs : Read (twoBytesAt v 4) 65536 size) where
@@ -79,7 +79,7 @@ module _ (s : List ℕ) (k : ℕ) (d₀ d : List ℕ) (i p : ℕ) (inv : WordsLe
 put-none : (d w : List ℕ) → w ≡ [] → Put d 0 w d 0
 put-none d w e = rw e (record { out = sym (written-none d 0 (omega arith)); next = refl })
 
-short-readings : (v : List ℕ) → length v < 6 → readingsIn v ≡ []
+short-readings : (v : List ℕ) → length v < sizesLength → readingsIn v ≡ []
 unfolding readingsIn wordsIn
 short-readings v h =
     let none : readingBytes v ≡ [] = drop-of-length-le v {i = labelsSize v} (omega arith) in
@@ -89,16 +89,18 @@ short-readings v h =
     go zero = refl
     go (suc k) = rw (ne-eqb 0 (8 * suc k) (λ h. omega arith), ne-eqb (suc k) 0 (λ h. omega arith))
 
-pub readings-short : (v d : List ℕ) → length v < 6 → Put d 0 (readingsIn v) d 0
+pub readings-short : (v d : List ℕ) → length v < sizesLength → Put d 0 (readingsIn v) d 0
 readings-short v d h = put-none d (readingsIn v) (short-readings v h)
 
 module _ (v : List ℕ) (k e : ℕ) (hk : Read (readingCount v) 4294967296 k) (he : Split v e) where
   bytes : length (readingBytes v) ≡ length v - e
   bytes = sym (ap length (he .readings)) ∙ length-drop e v
 
-  pub readings-whole : length v - e ≡ 8 * k → (d d′ : List ℕ) (r : ℕ) → Put d 0 (wordsIn k (take (length v - e) (drop e v))) d′ r → Put d 0 (readingsIn v) d′ r
+  pub readings-whole : length v - e ≡ 8 * k → (d d′ : List ℕ) (r : ℕ)
+      → Put d 0 (wordsIn k (take (length v - e) (drop e v))) d′ r → Put d 0 (readingsIn v) d′ r
   unfolding readingsIn
-  readings-whole h d d′ r p = let all : take (length v - e) (drop e v) ≡ drop e v = take-all (length v - e) (drop e v) (omega (arith, length-drop e v)) in
+  readings-whole h d d′ r p = let all : take (length v - e) (drop e v) ≡ drop e v = take-all (length v - e) (drop e v)
+      (omega (arith, length-drop e v)) in
       rw (bytes, ← hk .value, eq-eqb (length v - e) (8 * k) h, ← he .readings) (rw all at p)
 
   other : (length v - e ≡ 8 * k → ⊥) → readingsIn v ≡ otherThan k

@@ -8,6 +8,7 @@ use mir.Val.{Fits}
 use lib.ListN.{length, take}
 use lib.Seq.{length-take-le}
 use Rattle.side_parts.specs.declared.Shape.{Shape}
+use Rattle.side_parts.specs.Lent.{shapeOf}
 use Rattle.answers.specs.declared.Told.{Told}
 use Rattle.answers.specs.declared.Told.the-variants.{Answer, Refusal}
 use Rattle.writing.specs.Written.{Put}
@@ -41,10 +42,10 @@ module _ (w : Told) (x y d : List ℕ) (t : Told) (ht : t ≡ w) where
       pub readings-there : n * p ≤ length (take (n * p) y)
       readings-there = omega (arith, length-take-le (n * p) y readings-within)
 
-    pub answer-room : length (toldText w x y) ≤ length d → length (answerText n p (take b x) (take (n * p) y)) ≤ length d
+    pub answer-room : length (toldText w x y) ≤ length d → length (answerText n (shapeOf shape) (take b x) (take (n * p) y)) ≤ length d
     answer-room h = rw is-answer at h
 
-    pub answer-told : (d′ : List ℕ) (r : ℕ) → Put d 0 (answerText n p (take b x) (take (n * p) y)) d′ r → Put d 0 (toldText w x y) d′ r
+    pub answer-told : (d′ : List ℕ) (r : ℕ) → Put d 0 (answerText n (shapeOf shape) (take b x) (take (n * p) y)) d′ r → Put d 0 (toldText w x y) d′ r
     answer-told d′ r q = rw is-answer q
 
   module _ (k a b : ℕ) (e : t ≡ Refusal k a b) where

@@ -4,11 +4,14 @@ use native.Mathlib.Nat.{zero-add}
 use mathlib.Core.List.{List, [], _∷_, _++_}
 use lib.ListN.{length}
 use Rattle.model.specs.Labels.{Labels}
+use Rattle.side_parts.specs.declared.Shape.{Shape}
+use Rattle.side_parts.specs.Lent.{shapeOf}
 use Rattle.writing.specs.Written.{Put}
 use Rattle.writing.proofs.Written.{Rest, rest-start}
 use Rattle.vecop_run.specs.label_text.Numerals.{digits, decimal}
 use Rattle.vecop_run.specs.label_text.LabelText.{labelsText}
-use Rattle.vecop_run.specs.outcome_text.Text.{readingText, rowText, lineText, linesText, twoNumbers, answerText, refusalText}
+use Rattle.vecop_run.specs.outcome_text.Text.{readingText, rowText, lineText, linesText, twoNumbers}
+use Rattle.vecop_run.specs.outcome_text.Text.{numberText, sizesText, answerText, refusalText}
 use Rattle.vecop_run.proofs.label_text.Runs.{piece-room, piece-put, last-room, last-put}
 
 -- a reading
@@ -89,64 +92,109 @@ module _ (a b : ℕ) (d : List ℕ) (at : ℕ) (room : at + length (twoNumbers a
         pub two-numbers-put : (e : List ℕ) (r : ℕ) → Put d₃ o₃ (10 ∷ []) e r → Put d at (twoNumbers a b) e r
         two-numbers-put e r q = last-put d at (twoNumbers a b) d₃ o₃ (10 ∷ []) two-numbers-left-4 e r q
 
+-- a number and a space
+module _ (a : ℕ) (d : List ℕ) (at : ℕ) (room : at + length (numberText a) ≤ length d) where
+  number-left-1 : Rest d at (numberText a) d at ((decimal a) ++ (32 ∷ []))
+  unfolding numberText
+  number-left-1 = rest-start d at (numberText a) room
+
+  pub number-1 : at + length (decimal a) ≤ length d
+  number-1 = piece-room d at (numberText a) d at (decimal a) (32 ∷ []) number-left-1
+
+  module _ (d₁ : List ℕ) (o₁ : ℕ) (p₁ : Put d at (decimal a) d₁ o₁) where
+    number-left-2 : Rest d at (numberText a) d₁ o₁ (32 ∷ [])
+    number-left-2 = piece-put d at (numberText a) d at (decimal a) (32 ∷ []) number-left-1 d₁ o₁ p₁
+
+    pub number-2 : o₁ + 1 ≤ length d₁
+    number-2 = last-room d at (numberText a) d₁ o₁ (32 ∷ []) number-left-2
+
+    pub number-put : (e : List ℕ) (r : ℕ) → Put d₁ o₁ (32 ∷ []) e r → Put d at (numberText a) e r
+    number-put e r q = last-put d at (numberText a) d₁ o₁ (32 ∷ []) number-left-2 e r q
+
+-- what an answer is
+module _ (n : ℕ) (shape : Shape) (d : List ℕ) (at : ℕ) (room : at + length (sizesText n (shapeOf shape)) ≤ length d) where
+  sizes-left-1 : Rest d at (sizesText n (shapeOf shape)) d at
+      ((numberText n) ++ ((numberText (shape .points)) ++ (twoNumbers (shape .start) (shape .step))))
+  unfolding sizesText
+  sizes-left-1 = rest-start d at (sizesText n (shapeOf shape)) room
+
+  pub sizes-1 : at + length (numberText n) ≤ length d
+  sizes-1 = piece-room d at (sizesText n (shapeOf shape)) d at (numberText n)
+      ((numberText (shape .points)) ++ (twoNumbers (shape .start) (shape .step))) sizes-left-1
+
+  module _ (d₁ : List ℕ) (o₁ : ℕ) (p₁ : Put d at (numberText n) d₁ o₁) where
+    sizes-left-2 : Rest d at (sizesText n (shapeOf shape)) d₁ o₁ ((numberText (shape .points)) ++ (twoNumbers (shape .start) (shape .step)))
+    sizes-left-2 = piece-put d at (sizesText n (shapeOf shape)) d at (numberText n)
+        ((numberText (shape .points)) ++ (twoNumbers (shape .start) (shape .step))) sizes-left-1 d₁ o₁ p₁
+
+    pub sizes-2 : o₁ + length (numberText (shape .points)) ≤ length d₁
+    sizes-2 = piece-room d at (sizesText n (shapeOf shape)) d₁ o₁ (numberText (shape .points)) (twoNumbers (shape .start) (shape .step)) sizes-left-2
+
+    module _ (d₂ : List ℕ) (o₂ : ℕ) (p₂ : Put d₁ o₁ (numberText (shape .points)) d₂ o₂) where
+      sizes-left-3 : Rest d at (sizesText n (shapeOf shape)) d₂ o₂ (twoNumbers (shape .start) (shape .step))
+      sizes-left-3 = piece-put d at (sizesText n (shapeOf shape)) d₁ o₁ (numberText (shape .points))
+          (twoNumbers (shape .start) (shape .step)) sizes-left-2 d₂ o₂ p₂
+
+      pub sizes-3 : o₂ + length (twoNumbers (shape .start) (shape .step)) ≤ length d₂
+      sizes-3 = last-room d at (sizesText n (shapeOf shape)) d₂ o₂ (twoNumbers (shape .start) (shape .step)) sizes-left-3
+
+      pub sizes-put : (e : List ℕ) (r : ℕ) → Put d₂ o₂ (twoNumbers (shape .start) (shape .step)) e r → Put d at (sizesText n (shapeOf shape)) e r
+      sizes-put e r q = last-put d at (sizesText n (shapeOf shape)) d₂ o₂ (twoNumbers (shape .start) (shape .step)) sizes-left-3 e r q
+
 -- an answer
-module _ (n p : ℕ) (x y : List ℕ) (d : List ℕ) (room : length (answerText n p x y) ≤ length d) where
-  answer-left-1 : Rest d 0 (answerText n p x y) d 0 ((97 ∷ 110 ∷ 115 ∷ 119 ∷ 101 ∷ 114 ∷ 32 ∷ []) ++ ((twoNumbers n p) ++ (linesText n p x y)))
+module _ (n : ℕ) (shape : Shape) (x y : List ℕ) (d : List ℕ) (room : length (answerText n (shapeOf shape) x y) ≤ length d) where
+  answer-left-1 : Rest d 0 (answerText n (shapeOf shape) x y) d 0
+      ((97 ∷ 110 ∷ 115 ∷ 119 ∷ 101 ∷ 114 ∷ 32 ∷ []) ++ ((sizesText n (shapeOf shape)) ++ (linesText n (shape .points) x y)))
   unfolding answerText
-  answer-left-1 = rest-start d 0 (answerText n p x y) (rw zero-add room)
+  answer-left-1 = rest-start d 0 (answerText n (shapeOf shape) x y) (rw zero-add room)
 
   pub answer-1 : 0 + 7 ≤ length d
-  answer-1 = piece-room d 0 (answerText n p x y) d 0 (97 ∷ 110 ∷ 115 ∷ 119 ∷ 101 ∷ 114 ∷ 32 ∷ []) ((twoNumbers n p) ++ (linesText n p x y)) answer-left-1
+  answer-1 = piece-room d 0 (answerText n (shapeOf shape) x y) d 0 (97 ∷ 110 ∷ 115 ∷ 119 ∷ 101 ∷ 114 ∷ 32 ∷ [])
+      ((sizesText n (shapeOf shape)) ++ (linesText n (shape .points) x y)) answer-left-1
 
   module _ (d₁ : List ℕ) (o₁ : ℕ) (p₁ : Put d 0 (97 ∷ 110 ∷ 115 ∷ 119 ∷ 101 ∷ 114 ∷ 32 ∷ []) d₁ o₁) where
-    answer-left-2 : Rest d 0 (answerText n p x y) d₁ o₁ ((twoNumbers n p) ++ (linesText n p x y))
-    answer-left-2 = piece-put d 0 (answerText n p x y) d 0 (97 ∷ 110 ∷ 115 ∷ 119 ∷ 101 ∷ 114 ∷ 32 ∷ [])
-        ((twoNumbers n p) ++ (linesText n p x y)) answer-left-1 d₁ o₁ p₁
+    answer-left-2 : Rest d 0 (answerText n (shapeOf shape) x y) d₁ o₁ ((sizesText n (shapeOf shape)) ++ (linesText n (shape .points) x y))
+    answer-left-2 = piece-put d 0 (answerText n (shapeOf shape) x y) d 0 (97 ∷ 110 ∷ 115 ∷ 119 ∷ 101 ∷ 114 ∷ 32 ∷ [])
+        ((sizesText n (shapeOf shape)) ++ (linesText n (shape .points) x y)) answer-left-1 d₁ o₁ p₁
 
-    pub answer-2 : o₁ + length (twoNumbers n p) ≤ length d₁
-    answer-2 = piece-room d 0 (answerText n p x y) d₁ o₁ (twoNumbers n p) (linesText n p x y) answer-left-2
+    pub answer-2 : o₁ + length (sizesText n (shapeOf shape)) ≤ length d₁
+    answer-2 = piece-room d 0 (answerText n (shapeOf shape) x y) d₁ o₁ (sizesText n (shapeOf shape)) (linesText n (shape .points) x y) answer-left-2
 
-    module _ (d₂ : List ℕ) (o₂ : ℕ) (p₂ : Put d₁ o₁ (twoNumbers n p) d₂ o₂) where
-      answer-left-3 : Rest d 0 (answerText n p x y) d₂ o₂ (linesText n p x y)
-      answer-left-3 = piece-put d 0 (answerText n p x y) d₁ o₁ (twoNumbers n p) (linesText n p x y) answer-left-2 d₂ o₂ p₂
+    module _ (d₂ : List ℕ) (o₂ : ℕ) (p₂ : Put d₁ o₁ (sizesText n (shapeOf shape)) d₂ o₂) where
+      answer-left-3 : Rest d 0 (answerText n (shapeOf shape) x y) d₂ o₂ (linesText n (shape .points) x y)
+      answer-left-3 = piece-put d 0 (answerText n (shapeOf shape) x y) d₁ o₁ (sizesText n (shapeOf shape))
+          (linesText n (shape .points) x y) answer-left-2 d₂ o₂ p₂
 
-      pub answer-3 : o₂ + length (linesText n p x y) ≤ length d₂
-      answer-3 = last-room d 0 (answerText n p x y) d₂ o₂ (linesText n p x y) answer-left-3
+      pub answer-3 : o₂ + length (linesText n (shape .points) x y) ≤ length d₂
+      answer-3 = last-room d 0 (answerText n (shapeOf shape) x y) d₂ o₂ (linesText n (shape .points) x y) answer-left-3
 
-      pub answer-put : (e : List ℕ) (r : ℕ) → Put d₂ o₂ (linesText n p x y) e r → Put d 0 (answerText n p x y) e r
-      answer-put e r q = last-put d 0 (answerText n p x y) d₂ o₂ (linesText n p x y) answer-left-3 e r q
+      pub answer-put : (e : List ℕ) (r : ℕ) → Put d₂ o₂ (linesText n (shape .points) x y) e r → Put d 0 (answerText n (shapeOf shape) x y) e r
+      answer-put e r q = last-put d 0 (answerText n (shapeOf shape) x y) d₂ o₂ (linesText n (shape .points) x y) answer-left-3 e r q
 
 -- a refusal
 module _ (k a b : ℕ) (d : List ℕ) (room : length (refusalText k a b) ≤ length d) where
-  refusal-left-1 : Rest d 0 (refusalText k a b) d 0 ((114 ∷ 101 ∷ 102 ∷ 117 ∷ 115 ∷ 101 ∷ 100 ∷ 32 ∷ []) ++ ((decimal k) ++ ((32 ∷ []) ++ (twoNumbers a b))))
+  refusal-left-1 : Rest d 0 (refusalText k a b) d 0 ((114 ∷ 101 ∷ 102 ∷ 117 ∷ 115 ∷ 101 ∷ 100 ∷ 32 ∷ []) ++ ((numberText k) ++ (twoNumbers a b)))
   unfolding refusalText
   refusal-left-1 = rest-start d 0 (refusalText k a b) (rw zero-add room)
 
   pub refusal-1 : 0 + 8 ≤ length d
   refusal-1 = piece-room d 0 (refusalText k a b) d 0 (114 ∷ 101 ∷ 102 ∷ 117 ∷ 115 ∷ 101 ∷ 100 ∷ 32 ∷ [])
-      ((decimal k) ++ ((32 ∷ []) ++ (twoNumbers a b))) refusal-left-1
+      ((numberText k) ++ (twoNumbers a b)) refusal-left-1
 
   module _ (d₁ : List ℕ) (o₁ : ℕ) (p₁ : Put d 0 (114 ∷ 101 ∷ 102 ∷ 117 ∷ 115 ∷ 101 ∷ 100 ∷ 32 ∷ []) d₁ o₁) where
-    refusal-left-2 : Rest d 0 (refusalText k a b) d₁ o₁ ((decimal k) ++ ((32 ∷ []) ++ (twoNumbers a b)))
+    refusal-left-2 : Rest d 0 (refusalText k a b) d₁ o₁ ((numberText k) ++ (twoNumbers a b))
     refusal-left-2 = piece-put d 0 (refusalText k a b) d 0 (114 ∷ 101 ∷ 102 ∷ 117 ∷ 115 ∷ 101 ∷ 100 ∷ 32 ∷ [])
-        ((decimal k) ++ ((32 ∷ []) ++ (twoNumbers a b))) refusal-left-1 d₁ o₁ p₁
+        ((numberText k) ++ (twoNumbers a b)) refusal-left-1 d₁ o₁ p₁
 
-    pub refusal-2 : o₁ + length (decimal k) ≤ length d₁
-    refusal-2 = piece-room d 0 (refusalText k a b) d₁ o₁ (decimal k) ((32 ∷ []) ++ (twoNumbers a b)) refusal-left-2
+    pub refusal-2 : o₁ + length (numberText k) ≤ length d₁
+    refusal-2 = piece-room d 0 (refusalText k a b) d₁ o₁ (numberText k) (twoNumbers a b) refusal-left-2
 
-    module _ (d₂ : List ℕ) (o₂ : ℕ) (p₂ : Put d₁ o₁ (decimal k) d₂ o₂) where
-      refusal-left-3 : Rest d 0 (refusalText k a b) d₂ o₂ ((32 ∷ []) ++ (twoNumbers a b))
-      refusal-left-3 = piece-put d 0 (refusalText k a b) d₁ o₁ (decimal k) ((32 ∷ []) ++ (twoNumbers a b)) refusal-left-2 d₂ o₂ p₂
+    module _ (d₂ : List ℕ) (o₂ : ℕ) (p₂ : Put d₁ o₁ (numberText k) d₂ o₂) where
+      refusal-left-3 : Rest d 0 (refusalText k a b) d₂ o₂ (twoNumbers a b)
+      refusal-left-3 = piece-put d 0 (refusalText k a b) d₁ o₁ (numberText k) (twoNumbers a b) refusal-left-2 d₂ o₂ p₂
 
-      pub refusal-3 : o₂ + 1 ≤ length d₂
-      refusal-3 = piece-room d 0 (refusalText k a b) d₂ o₂ (32 ∷ []) (twoNumbers a b) refusal-left-3
+      pub refusal-3 : o₂ + length (twoNumbers a b) ≤ length d₂
+      refusal-3 = last-room d 0 (refusalText k a b) d₂ o₂ (twoNumbers a b) refusal-left-3
 
-      module _ (d₃ : List ℕ) (o₃ : ℕ) (p₃ : Put d₂ o₂ (32 ∷ []) d₃ o₃) where
-        refusal-left-4 : Rest d 0 (refusalText k a b) d₃ o₃ (twoNumbers a b)
-        refusal-left-4 = piece-put d 0 (refusalText k a b) d₂ o₂ (32 ∷ []) (twoNumbers a b) refusal-left-3 d₃ o₃ p₃
-
-        pub refusal-4 : o₃ + length (twoNumbers a b) ≤ length d₃
-        refusal-4 = last-room d 0 (refusalText k a b) d₃ o₃ (twoNumbers a b) refusal-left-4
-
-        pub refusal-put : (e : List ℕ) (r : ℕ) → Put d₃ o₃ (twoNumbers a b) e r → Put d 0 (refusalText k a b) e r
-        refusal-put e r q = last-put d 0 (refusalText k a b) d₃ o₃ (twoNumbers a b) refusal-left-4 e r q
+      pub refusal-put : (e : List ℕ) (r : ℕ) → Put d₂ o₂ (twoNumbers a b) e r → Put d 0 (refusalText k a b) e r
+      refusal-put e r q = last-put d 0 (refusalText k a b) d₂ o₂ (twoNumbers a b) refusal-left-3 e r q

@@ -10,11 +10,6 @@ use Rattle.vecop_run.specs.frame.Sides.{labelsIn, readingBytes}
 use Rattle.vecop_run.specs.declared.frame.Parts.{Parts}
 use Rattle.vecop_run.specs.declared.frame.Parts.the-variants.{Three, Unreadable}
 
--- a number that was read, and what it stays below
-pub record Read (n bound r : ℕ) : Type 0 where
-  pub value : r ≡ n
-  pub small : r < bound
-
 abbrev pub partAt : List ℕ → Place → Part
 partAt s (At start end) = part (take (end - start) (drop start s)) (drop end s)
 partAt s Short = cutPart

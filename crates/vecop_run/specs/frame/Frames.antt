@@ -4,14 +4,7 @@ use mathlib.Core.Bool.{cond}
 use mathlib.Core.List.{List, [], _∷_}
 use lib.Dec.{leb}
 use lib.ListN.{length, take, drop}
-use Rattle.model.specs.Vector.{twoBytesAt}
-
--- 01: Integers are little-endian
-abbrev pub fourBytesAt : List ℕ → ℕ → ℕ
-fourBytesAt s i = twoBytesAt s i + 65536 * twoBytesAt s (i + 2)
-
-abbrev pub eightBytesAt : List ℕ → ℕ → ℕ
-eightBytesAt s i = fourBytesAt s i + 4294967296 * fourBytesAt s (i + 4)
+use Rattle.model.specs.Vector.{fourBytesAt}
 
 -- a part, and what follows it; or a length or a part cut short
 pub data Part : Type 0 where

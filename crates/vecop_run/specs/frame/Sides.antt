@@ -5,10 +5,9 @@ use mathlib.Core.List.{List, [], _∷_}
 use lib.Dec.{eqb}
 use lib.ListN.{length, take, drop}
 use Rattle.model.specs.Limits.{sizesLength}
-use Rattle.model.specs.Vector.{twoBytesAt}
-use Rattle.vecop_run.specs.frame.Frames.{eightBytesAt}
+use Rattle.model.specs.Vector.{twoBytesAt, eightBytesAt}
 
--- the six size bytes, and as many label bytes as they say
+-- the sizes, and as many label bytes as they say
 abbrev pub labelsSize : List ℕ → ℕ
 labelsSize v = sizesLength + twoBytesAt v 4
 

@@ -4,6 +4,7 @@ use mathlib.Core.List.{List, [], _∷_, _++_}
 use lib.ListN.{take, drop}
 use Rattle.model.specs.Lists.{gather}
 use Rattle.model.specs.Labels.{Labels}
+use Rattle.model.specs.Vector.{Shape}
 use Rattle.model.specs.Record.{Decoded, decoded, cut, badKey, decode}
 use Rattle.semantics.specs.Call.{Outcome, refused, answered}
 use Rattle.vecop_run.specs.label_text.Numerals.{decimal, hexadecimal}
@@ -35,19 +36,27 @@ linesText (suc n) p labels readings =
 unfoldable pub twoNumbers : ℕ → ℕ → List ℕ
 twoNumbers a b = decimal a ++ ((32 ∷ []) ++ (decimal b ++ (10 ∷ [])))
 
--- 01: `answer`. Fields: series, points; then a line a series
-unfoldable pub answerText : ℕ → ℕ → List ℕ → List ℕ → List ℕ
-answerText n p labels readings =
-    (97 ∷ 110 ∷ 115 ∷ 119 ∷ 101 ∷ 114 ∷ 32 ∷ []) ++ (twoNumbers n p ++ linesText n p labels readings)
+-- a number and a space behind it
+unfoldable pub numberText : ℕ → List ℕ
+numberText a = decimal a ++ (32 ∷ [])
+
+-- 01: series, points. 02: `vecop` prints start and step after the points.
+unfoldable pub sizesText : ℕ → Shape → List ℕ
+sizesText n shape = numberText n ++ (numberText (shape .points) ++ twoNumbers (shape .start) (shape .step))
+
+-- 01: `answer`, its fields, then a line a series
+unfoldable pub answerText : ℕ → Shape → List ℕ → List ℕ → List ℕ
+answerText n shape labels readings =
+    (97 ∷ 110 ∷ 115 ∷ 119 ∷ 101 ∷ 114 ∷ 32 ∷ []) ++ (sizesText n shape ++ linesText n (shape .points) labels readings)
 
 -- 01: A refusal prints one line: `refused`, number, two fields, parted by single spaces.
 unfoldable pub refusalText : ℕ → ℕ → ℕ → List ℕ
 refusalText k a b =
-    (114 ∷ 101 ∷ 102 ∷ 117 ∷ 115 ∷ 101 ∷ 100 ∷ 32 ∷ []) ++ (decimal k ++ ((32 ∷ []) ++ twoNumbers a b))
+    (114 ∷ 101 ∷ 102 ∷ 117 ∷ 115 ∷ 101 ∷ 100 ∷ 32 ∷ []) ++ (numberText k ++ twoNumbers a b)
 
 unfoldable pub unreadableText : List ℕ
 unreadableText = 117 ∷ 110 ∷ 114 ∷ 101 ∷ 97 ∷ 100 ∷ 97 ∷ 98 ∷ 108 ∷ 101 ∷ 10 ∷ []
 
 abbrev pub printed : Outcome → List ℕ
 printed (refused k a b) = refusalText k a b
-printed (answered n p labels readings) = answerText n p labels readings
+printed (answered n shape labels readings) = answerText n shape labels readings

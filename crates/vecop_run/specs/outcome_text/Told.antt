@@ -2,12 +2,13 @@
 use Prim.Native.Nat.{ℕ, _*_, _≤_}
 use mathlib.Core.List.{List}
 use lib.ListN.{length, take}
+use Rattle.side_parts.specs.Lent.{shapeOf}
 use Rattle.answers.specs.declared.Told.{Told}
 use Rattle.answers.specs.declared.Told.the-variants.{Answer, Refusal}
 use Rattle.vecop_run.specs.outcome_text.Text.{answerText, refusalText}
 
 abbrev pub toldText : Told → List ℕ → List ℕ → List ℕ
-toldText (Answer n shape b) labels readings = answerText n (shape .points) (take b labels) (take (n * shape .points) readings)
+toldText (Answer n shape b) labels readings = answerText n (shapeOf shape) (take b labels) (take (n * shape .points) readings)
 toldText (Refusal k a b) labels readings = refusalText k a b
 
 -- an answer lies within the output parts

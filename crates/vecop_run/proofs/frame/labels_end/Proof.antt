@@ -7,8 +7,8 @@ use Rattle.vecop_run.proofs.frame.labels_end.Tie as tie
 returns : tie.Need-returns
 returns c = search split-short
 
-two-at-requires : tie.Need-two-at-requires
-two-at-requires c κs = search needs
+two-bytes-at-requires : tie.Need-two-bytes-at-requires
+two-bytes-at-requires c κs = search needs
 
 add-end : tie.Need-add-end
 add-end c = search needs
@@ -20,4 +20,4 @@ returns-3 : tie.Need-returns-3
 returns-3 c = search split-cut
 
 pub labels-end-spec : {M : Type 1} → statement M
-labels-end-spec = tie.close (tie.spec returns two-at-requires add-end returns-2 returns-3)
+labels-end-spec = tie.close (tie.spec returns two-bytes-at-requires add-end returns-2 returns-3)

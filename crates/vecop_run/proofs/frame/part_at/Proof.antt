@@ -10,8 +10,8 @@ sub-if1 c = search needs
 returns : tie.Need-returns
 returns c = search length-cut
 
-four-at-requires : tie.Need-four-at-requires
-four-at-requires c κs = search needs
+four-bytes-at-requires : tie.Need-four-bytes-at-requires
+four-bytes-at-requires c κs = search needs
 
 add-start : tie.Need-add-start
 add-start c = search needs
@@ -31,4 +31,4 @@ returns-3 c = search part-cut
 pub part-at-spec : {M : Type 1} → statement M
 part-at-spec =
     tie.close
-    (tie.spec sub-if1 returns four-at-requires add-start sub-if2 add-t10 returns-2 returns-3)
+    (tie.spec sub-if1 returns four-bytes-at-requires add-start sub-if2 add-t10 returns-2 returns-3)

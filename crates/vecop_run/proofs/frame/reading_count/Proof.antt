@@ -4,11 +4,11 @@ use Rattle.vecop_run.proofs.frame.Numbers.{product-fits, product-read}
 use Rattle.vecop_run.proofs.frame.reading_count.Statement.{statement}
 use Rattle.vecop_run.proofs.frame.reading_count.Tie as tie
 
-two-at-requires : tie.Need-two-at-requires
-two-at-requires c κs = search needs
+two-bytes-at-requires : tie.Need-two-bytes-at-requires
+two-bytes-at-requires c κs = search needs
 
-two-at-requires-2 : tie.Need-two-at-requires-2
-two-at-requires-2 c κs = search needs
+two-bytes-at-requires-2 : tie.Need-two-bytes-at-requires-2
+two-bytes-at-requires-2 c κs = search needs
 
 mul-result : tie.Need-mul-result
 mul-result c = record { fits = search product-fits }
@@ -17,4 +17,4 @@ returns : tie.Need-returns
 returns c = search product-read
 
 pub reading-count-spec : {M : Type 1} → statement M
-reading-count-spec = tie.close (tie.spec two-at-requires two-at-requires-2 mul-result returns)
+reading-count-spec = tie.close (tie.spec two-bytes-at-requires two-bytes-at-requires-2 mul-result returns)

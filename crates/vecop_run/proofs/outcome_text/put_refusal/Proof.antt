@@ -1,6 +1,6 @@
 -- `outcome_text::put_refusal` meets its contract. Assumes nothing.
 use borrow.Author.Needs.{needs}
-use Rattle.vecop_run.proofs.outcome_text.Texts.{refusal-1, refusal-2, refusal-3, refusal-4, refusal-put}
+use Rattle.vecop_run.proofs.outcome_text.Texts.{refusal-1, refusal-2, refusal-3, refusal-put}
 use Rattle.vecop_run.proofs.outcome_text.put_refusal.Statement.{statement}
 use Rattle.vecop_run.proofs.outcome_text.put_refusal.Tie as tie
 
@@ -12,6 +12,5 @@ put-refusal-spec =
     (λ c κs. search refusal-1)
     (λ c κs. search refusal-2)
     (λ c κs. search refusal-3)
-    (λ c κs. search refusal-4)
     (λ c. search needs)
     (λ c. search refusal-put))

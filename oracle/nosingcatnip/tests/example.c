@@ -1,0 +1,39 @@
+/* `/` of fed{press="A"} [10, missing, 6] and waste{press="A"} [2, 1, 3], an hour apart, through the header; then the same with the
+ * right side a millisecond later, which is refused with 12. Ends with 0 where all is as it should be. */
+#include <math.h>
+#include <string.h>
+
+#include "nosingcatnip.h"
+
+static uint8_t fed[] = "\x01\0\x03\0\x0d\0\0\0\0\0\0\0\0\0\x80\xee\x36\0\x03" "fed\x01\x05press\x01" "A";
+static uint8_t waste[] = "\x01\0\x03\0\x0f\0\0\0\0\0\0\0\0\0\x80\xee\x36\0\x05waste\x01\x05press\x01" "A";
+
+static uint64_t bits(double x) {
+    uint64_t word;
+    memcpy(&word, &x, sizeof word);
+    return word;
+}
+
+int main(void) {
+    const uint8_t query[] = {4, 0, 0, 0, 0, 0};
+    const uint64_t left[] = {bits(10), bits(NAN), bits(6)}, right[] = {bits(2), bits(1), bits(3)};
+    uint8_t labels[64];
+    uint64_t out[8], result[NOSINGCATNIP_RESULT];
+    const uint64_t answered[] = {0, 0, 0, 1, 3, 0, 3600000, 10}, refused[] = {12, 0, 0, 0, 0, 0, 0, 0};
+    const uint64_t rows[] = {bits(5), 0x7ff8000000000000, bits(2)};
+    memset(labels, 187, sizeof labels);
+    /* The arrays end with the string's 0, which is no part of the label part. */
+    nosingcatnip_exec_binop(query, sizeof query, fed, sizeof fed - 1, left, 3, waste, sizeof waste - 1, right, 3, labels,
+                            sizeof labels, out, 8, result);
+    if (sizeof answered != sizeof result || memcmp(result, answered, sizeof result) != 0) return 1;
+    if (result[NOSINGCATNIP_SERIES] != 1 || result[NOSINGCATNIP_POINTS] != 3 || result[NOSINGCATNIP_START] != 0 ||
+        result[NOSINGCATNIP_STEP] != 3600000 || result[NOSINGCATNIP_LABEL_BYTES] != 10)
+        return 2;
+    if (memcmp(labels, "\0\x01\x05press\x01" "A", 10) != 0 || labels[10] != 187 || memcmp(out, rows, sizeof rows) != 0) return 3;
+    waste[6] = 1;
+    memset(labels, 187, sizeof labels);
+    nosingcatnip_exec_binop(query, sizeof query, fed, sizeof fed - 1, left, 3, waste, sizeof waste - 1, right, 3, labels,
+                            sizeof labels, out, 8, result);
+    if (memcmp(result, refused, sizeof result) != 0 || result[NOSINGCATNIP_NUMBER] != 12) return 4;
+    return labels[0] == 187 ? 0 : 5;
+}

@@ -1,0 +1,60 @@
+//! The header, by a program in C, and the wrapper, by what each number and part of a result comes to.
+use std::path::Path;
+use std::process::Command;
+
+use nosingcatnip::{exec_binop, Answer, Refusal, Side};
+
+#[test]
+fn a_program_in_c_runs_the_example() {
+    let here = Path::new(env!("CARGO_MANIFEST_DIR"));
+    let program = Path::new(env!("CARGO_TARGET_TMPDIR")).join("example");
+    let built = Command::new("cc")
+        .args(["-std=c99", "-Wall", "-Wextra", "-Werror", "-I"])
+        .arg(here.join("../include"))
+        .arg(here.join("tests/example.c"))
+        .arg(Path::new(env!("NOSINGCATNIP_LIB")))
+        .args(["-lm", "-o"])
+        .arg(&program)
+        .status();
+    assert!(built.expect("a C compiler").success());
+    assert_eq!(Command::new(program).status().expect("the program").code(), Some(0));
+}
+
+/// A label part of one series without name and tags.
+fn bare(points: u16, start: u64, step: u32) -> Vec<u8> {
+    let sizes = [1, points, 2].map(u16::to_le_bytes).concat();
+    [&sizes[..], &start.to_le_bytes(), &step.to_le_bytes(), &[0, 0]].concat()
+}
+
+fn sum(left: &[u8], right: &[u8]) -> Result<Answer, Refusal> {
+    let ones = [1f64.to_bits(); 2];
+    let (mut labels, mut readings) = ([0; 8], [0; 8]);
+    exec_binop(
+        &[0; 6],
+        Side { labels: left, readings: &ones },
+        Side { labels: right, readings: &ones },
+        &mut labels,
+        &mut readings,
+    )
+}
+
+#[test]
+fn the_answer_has_the_grid_of_its_sides() {
+    for (start, step) in [(0, 1), (1_772_431_200_000, 3_600_000), (1 << 52, 86_400_000)] {
+        let side = bare(2, start, step);
+        assert_eq!(sum(&side, &side), Ok(Answer { series: 1, points: 2, start, step, label_bytes: 2 }));
+    }
+}
+
+#[test]
+fn grids_are_refused() {
+    let good = bare(2, 0, 1);
+    let refused = |number, first| Err(Refusal { number, fields: [first, 0] });
+    for (start, step) in [((1 << 52) + 1, 1), (u64::MAX, 1), (0, 0), (0, 86_400_001)] {
+        assert_eq!(sum(&bare(2, start, step), &good), refused(11, 0));
+        assert_eq!(sum(&good, &bare(2, start, step)), refused(11, 1));
+    }
+    for (start, step) in [(1, 1), (0, 2)] {
+        assert_eq!(sum(&good, &bare(2, start, step)), refused(12, 0));
+    }
+}
