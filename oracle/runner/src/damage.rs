@@ -152,6 +152,25 @@ fn edge_grid(r: &mut Random) -> Grid {
     grid
 }
 
+/// Every border of start and step on the left side with every border on the right, on sides with and without series and points:
+/// 11 for each side, and 12 for every two good grids that differ, empty sides included.
+pub fn grid_borders(visit: &mut dyn FnMut(Call)) {
+    let starts = [0, 1, MAX_START - 1, MAX_START, MAX_START + 1, u64::MAX];
+    let steps = [0, 1, 2, MAX_STEP, MAX_STEP + 1, u32::MAX];
+    let grids = starts.map(|start| steps.map(|step| Grid { start, step })).concat();
+    for (left, right, p) in [(0, 0, 0), (0, 0, 3), (1, 0, 3), (0, 1, 3), (1, 1, 0), (1, 1, 3)] {
+        let c = call(&plain(Operator::Add), &numbered(left, p, b"a"), &numbered(right, p, b"a"), ROOM);
+        for left_grid in &grids {
+            for right_grid in &grids {
+                let mut c = c.clone();
+                put_grid(&mut c.left_labels, *left_grid);
+                put_grid(&mut c.right_labels, *right_grid);
+                visit(c);
+            }
+        }
+    }
+}
+
 /// Sides of different p, empty ones included, with faults before them at times; half of them on one grid.
 pub fn unequal_points(r: &mut Random, visit: &mut dyn FnMut(Call)) {
     let mut c = whole(r);

@@ -125,6 +125,7 @@ fn beyond(o: &Options, visit: &mut dyn FnMut(&'static str, Call)) {
         damage::unequal_points(&mut r, &mut |c| visit("sides of different p", c));
         damage::rooms(&mut r, &mut |c| visit("lent parts of every length", c));
     }
+    damage::grid_borders(&mut |c| visit("every border of start and step", c));
     damage::limits(&mut |c| visit("limits", c));
 }
 
