@@ -1,8 +1,8 @@
--- Rows of an answer, each written into its own part of the readings: row r from r times p on. And a row copied. Assumes nothing.
+-- Rows of an answer, each written into its own part of the readings: row r from r times p on. Assumes nothing.
 use Prim.Native.Nat.{ℕ, suc, _+_, _-_, _*_, _≤_, _<_}
 use mathlib.Core.Path.{_≡_, refl, sym, ap, _∙_}
 use mathlib.Core.List.{List, [], _∷_, _++_, append-nil}
-use native.Mathlib.Nat.{suc-mul, zero-mul, mul-le-mul, mul-le-mul-right}
+use native.Mathlib.Nat.{suc-mul, zero-mul, mul-le-mul}
 use native.Mathlib.Numerals.{add-one}
 use native.Mathlib.Omega.{arith}
 use mir.Syntax.{w64}
@@ -13,16 +13,9 @@ use borrow.Rule.Slice.PartMut.{putMid, post-is}
 use Rattle.model.specs.Limits.{maxSeries, maxPoints}
 use Rattle.model.specs.Lists.{gather}
 use Rattle.writing.specs.Written.{written, Put}
+use Rattle.side_parts.specs.SideLaws.{row-in}
 use Rattle.answers.specs.Outcomes.{startingWith}
 use Rattle.answers.proofs.Writing.{Writing, writing-starts, writing-turn, writing-ends}
-
--- a row below n ends within n rows
-pub row-in : (r n p : ℕ) → r < n → r * p + p ≤ n * p
-row-in r n p h = rw (← suc-mul) (mul-le-mul-right p h)
-
--- a row that ends within the readings has its width
-pub row-width : (p : ℕ) (rows x : List ℕ) (i : ℕ) → i * p + p ≤ length rows → x ≡ take p (drop (i * p) rows) → length x ≡ p
-row-width p rows x i h e = rw e (simp (length-take, length-drop) (omega arith))
 
 -- a row of an answer begins and ends at numbers of one word, and so do its bytes
 module _ (r p : ℕ) (rows : List ℕ) (h : r < length rows) (k : length rows ≤ maxSeries) (q : p ≤ maxPoints) where
@@ -97,28 +90,3 @@ module _ (g : ℕ → List ℕ) (p : ℕ) (rows d₀ : List ℕ) where
 
     pub rows-end : length rows ≤ r → d ≡ startingWith (gather g rows) d₀
     rows-end h = writing-ends g rows d₀ r d (r * p) (inv .writing) h
-
--- `copy_row`: i places are copied
-pub record Copying (before s d : List ℕ) (i : ℕ) : Type 0 where
-  pub long : length d ≡ length before
-  pub within : i ≤ length d
-  pub rest : take i d ++ drop i s ≡ s
-
-module _ (before s : List ℕ) where
-  pub copy-starts : Copying before s before 0
-  copy-starts = record { long = refl; within = omega arith; rest = refl }
-
-  module _ (d : List ℕ) (i : ℕ) (inv : Copying before s d i) (same : length s ≡ length before) where
-    pub copy-turn : i < length d → Copying before s (set d i (getD s i 0)) (i + 1)
-    copy-turn h =
-        let k : i < length s = omega (arith, inv .long) in
-        record {
-          long = simp length-set (inv .long);
-          within = simp length-set (omega arith);
-          rest = rw (add-one, take-suc-set, append-snoc, ← drop-cons s i 0 k) (inv .rest);
-        }
-
-    pub copy-ends : length d ≤ i → d ≡ s
-    copy-ends h =
-        let k : length s ≤ i = omega (arith, inv .long) in
-        rw (take-all, drop-of-length-le s k, append-nil) at (inv .rest)

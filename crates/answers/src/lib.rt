@@ -156,15 +156,3 @@ pub fn room_for(series: usize, points: usize, t: Tally, labels: usize, readings:
     }
     Room::Fits
 }
-
-// Copies a row.
-pub fn copy_row(dst: &mut [u64], src: &[u64])
-    requires { ⌜ length (now src) ≡ length (now dst) ⌝ }
-    ensures { λ _. ⌜ now (dst .exit) ≡ now (src .entry) ⌝ }
-{
-    let mut i: usize = 0;
-    while i < dst.len() {
-        dst[i] = src[i];
-        i += 1;
-    }
-}

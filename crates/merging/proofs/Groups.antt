@@ -17,7 +17,7 @@ use Rattle.merge.specs.declared.Merged.the-variants as M
 use Rattle.merge.specs.Merging.{done, overlapping, refused, doneOr, mergedAlone, MergedAs}
 use Rattle.plan.specs.Merging.{RowMerge, row, failedAt, onRow, mergeGroup, mergeLead}
 use Rattle.side_parts.specs.Sides.{rowAt}
-use Rattle.answers.proofs.Rows.{row-in, row-width}
+use Rattle.side_parts.specs.SideLaws.{row-in, row-width}
 use Rattle.merging.specs.declared.Merges.{Merges}
 use Rattle.merging.specs.declared.Merges.the-variants.{Done, FailedAt}
 use Rattle.merging.specs.Groups.{absorbedOne, thereIf, AbsorbedAs, MergedGroup}

@@ -76,6 +76,6 @@ pub fn merge_lead(
         ⌝ }
 {
     let p = dst.len();
-    answers::copy_row(dst, side_parts::row(rows, p, o));
+    side_parts::copy_row(dst, side_parts::row(rows, p, o));
     merge_between(rows, leads, o, o + 1, leads.len(), allowance, dst)
 }

@@ -16,7 +16,7 @@ use Rattle.model.specs.Lists.{cases}
 use Rattle.model.specs.Row.{overwritten}
 use Rattle.model.specs.Laws.Row.{overwritten-wide}
 use Rattle.side_parts.specs.Sides.{rowAt}
-use Rattle.answers.proofs.Rows.{row-in, row-width}
+use Rattle.side_parts.specs.SideLaws.{row-in, row-width}
 use Rattle.overwriting.specs.Overwriting.{overwrittenIf, overwrittenBy, inGroup, rowOfSeveral}
 use Rattle.overwriting.specs.OverLaws.{over-step, wide-if, over-agree, over-none, over-split, over-wide}
 use Rattle.overwriting.specs.Marks.{bit, bitsFrom, markedBehind, rowOfMarked}

@@ -112,6 +112,6 @@ pub fn put_marked(rows: &[u64], marks: &[usize], o: usize, count: usize, dst: &m
         ⌝ }
 {
     let p = dst.len();
-    answers::copy_row(dst, side_parts::row(rows, p, o));
+    side_parts::copy_row(dst, side_parts::row(rows, p, o));
     overwrite_marks(rows, marks, o, count, dst);
 }

@@ -15,7 +15,7 @@ use Rattle.side_parts.specs.Lent.{RowsHeld, BothRowsHeld, Sides}
 use Rattle.overwriting.specs.Overwriting.{rowOfSeveral}
 use Rattle.overwriting.specs.OverLaws.{several-wide}
 use Rattle.answers.specs.Outcomes.{startingWith}
-use Rattle.answers.proofs.Rows.{row-in, row-width}
+use Rattle.side_parts.specs.SideLaws.{row-in, row-width}
 use Rattle.end_codes.specs.Codes.{leftFirst, leftLast, rightFirst, rightLast}
 use Rattle.pair_series.specs.pair_rows.Rows.{codedSide, codedPairRow, PairCode}
 use Rattle.pair_series.specs.pair_rows.Rows.{sideWork, leftWork, rightWork}

@@ -14,8 +14,8 @@ use Rattle.side_parts.specs.Sides.{rowAt}
 use Rattle.side_parts.specs.Lent.{Sides, RowsHeld, BothRowsHeld}
 use Rattle.plan.specs.Sets.{setPoint, firstAt, setRow, leftRow}
 use Rattle.end_codes.specs.Codes.{rightFirst, rightLast}
-use Rattle.answers.proofs.Rows as Rows
-use Rattle.answers.proofs.Rows.{row-width}
+use Rattle.side_parts.specs.SideLaws as Rows
+use Rattle.side_parts.specs.SideLaws.{row-width}
 use Rattle.set_series.specs.left_rows.Rows.{LeftRowPut}
 use Rattle.set_records.specs.Records.{rowPlace}
 use Rattle.set_series.specs.Series.{SetCode, codedPlaces, codedSetRow, SetRowPut}

@@ -106,7 +106,7 @@ fn put_with(rule: SetRule, left: &[u64], rows: &[u64], places: &[usize], out: &m
         ⌝ }
 {
     if places.len() == 0 {
-        answers::copy_row(out, left);
+        side_parts::copy_row(out, left);
         return;
     }
     set_row(rule, left, rows, places, out);
@@ -132,7 +132,7 @@ pub(crate) fn put_left_row(
         ⌝ }
 {
     if keys.len() <= last {
-        answers::copy_row(out, left);
+        side_parts::copy_row(out, left);
         return;
     }
     if first == last {

@@ -50,5 +50,5 @@ pub fn put_set_row(
         );
         return;
     }
-    answers::copy_row(out, side_parts::row(rows[1], p, x - n));
+    side_parts::copy_row(out, side_parts::row(rows[1], p, x - n));
 }

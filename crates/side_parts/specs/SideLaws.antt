@@ -3,7 +3,7 @@ use Prim.Native.Nat.{ℕ, zero, suc, _+_, _-_, _*_, _≤_, _<_}
 use mathlib.Core.Path.{_≡_, refl, sym, ap, _∙_}
 use mathlib.Core.List.{List, [], _∷_, _++_, append-assoc, append-nil}
 use native.Mathlib.Numerals.{add-one}
-use native.Mathlib.Nat.{zero-mul}
+use native.Mathlib.Nat.{zero-mul, suc-mul, mul-le-mul-right}
 use native.Mathlib.Omega.{arith}
 use lib.ListN.{length, getD, take, drop, length-append, length-take, length-drop, length-map}
 use lib.Seq.{take-at, drop-at, drop-drop, take-nil, getD-take}
@@ -175,3 +175,13 @@ row-starts p ss i d a h =
 pub array-of : (shape : Shape) (ss : List Series) → drop sizesLength (labelPart shape ss) ≡ labelBytes ss
 unfolding labelPart
 array-of shape ss = refl
+
+-- rows by their number
+
+-- a row below n ends within n rows
+pub row-in : (r n p : ℕ) → r < n → r * p + p ≤ n * p
+row-in r n p h = rw (← suc-mul) (mul-le-mul-right p h)
+
+-- a row that ends within the readings has its width
+pub row-width : (p : ℕ) (rows x : List ℕ) (i : ℕ) → i * p + p ≤ length rows → x ≡ rowAt p rows i → length x ≡ p
+row-width p rows x i h e = rw e (simp (length-take, length-drop) (omega arith))

@@ -1,4 +1,4 @@
-// The shape of a side's rows; the record and the row of a series, as parts of its label array and readings.
+// The shape of a side's rows; the record and the row of a series, as parts of its label array and readings; a row copied.
 ghost use mathlib.Core.Path.{_≡_};
 ghost use Prim.Native.Nat.{_+_, _-_, _*_, _≤_, _<_};
 ghost use lib.ListN.{length};
@@ -30,4 +30,16 @@ pub fn row(rows: &[u64], p: usize, i: usize) -> &[u64]
     let a = i * p;
     let e = a + p;
     &rows[a..e]
+}
+
+// Copies a row.
+pub fn copy_row(dst: &mut [u64], src: &[u64])
+    requires { ⌜ length (now src) ≡ length (now dst) ⌝ }
+    ensures { λ _. ⌜ now (dst .exit) ≡ now (src .entry) ⌝ }
+{
+    let mut i: usize = 0;
+    while i < dst.len() {
+        dst[i] = src[i];
+        i += 1;
+    }
 }

@@ -11,7 +11,7 @@ use Rattle.model.specs.Row.{zipWith}
 use Rattle.plan.specs.Joins.{manyPlace, onePlace}
 use Rattle.side_parts.specs.Sides.{rowAt}
 use Rattle.side_parts.specs.Lent.{Sides, BothRowsHeld}
-use Rattle.answers.proofs.Rows.{row-in, row-width}
+use Rattle.side_parts.specs.SideLaws.{row-in, row-width}
 use Rattle.overwriting.specs.Marks.{rowOfMarked}
 use Rattle.overwriting.specs.MarkLaws.{marked-wide}
 use Rattle.row_marks.specs.Words.{unmarked}

@@ -25,7 +25,7 @@ use Rattle.merging.specs.declared.Merges.{Merges}
 use Rattle.merging.specs.declared.Merges.the-variants.{Done, FailedAt}
 use Rattle.merge.specs.Merging.{mergedIf, mergeable, mergeable-merges}
 use Rattle.answers.specs.Plans.{duplicate}
-use Rattle.answers.proofs.Rows.{row-in, row-width}
+use Rattle.side_parts.specs.SideLaws.{row-in, row-width}
 use Rattle.merging.specs.Groups.{mergesTo, MergedGroup}
 use Rattle.plan.specs.Laws.Ends.{first-last, last-most, ends-within, several-stand}
 use Rattle.overwriting.specs.Several.{single-row, none-among, several, several-merged}

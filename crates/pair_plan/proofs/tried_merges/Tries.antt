@@ -6,7 +6,7 @@ use mathlib.Core.List.{List}
 use lib.Dec.{ltb}
 use lib.ListN.{length, take, drop}
 use borrow.Author.Tests.{ltb-true, le-ltb, lt-ltb}
-use Rattle.answers.proofs.Rows.{row-width}
+use Rattle.side_parts.specs.SideLaws.{row-width}
 use Rattle.model.specs.Row.{merged}
 use Rattle.merge.specs.Merging.{mergedIf}
 use Rattle.plan.specs.Keys.{firstOf}

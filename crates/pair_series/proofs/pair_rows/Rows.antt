@@ -12,7 +12,7 @@ use Rattle.side_parts.specs.Lent.{RowsHeld}
 use Rattle.overwriting.specs.Overwriting.{rowOfSeveral}
 use Rattle.overwriting.specs.OverLaws.{several-wide}
 use Rattle.answers.specs.Outcomes.{startingWith}
-use Rattle.answers.proofs.Rows.{row-in, row-width}
+use Rattle.side_parts.specs.SideLaws.{row-in, row-width}
 use Rattle.pair_series.specs.pair_rows.Rows.{codedSide, sideWork}
 
 module _ (p : ℕ) (rows keys : List ℕ) (h : RowsHeld p rows keys) where

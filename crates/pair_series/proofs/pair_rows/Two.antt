@@ -18,7 +18,7 @@ use Rattle.side_parts.specs.Lent.{RowsHeld}
 use Rattle.overwriting.specs.Overwriting.{rowOfSeveral, inGroup}
 use Rattle.overwriting.specs.OverLaws.{over-none}
 use Rattle.answers.specs.Outcomes.{startingWith}
-use Rattle.answers.proofs.Rows.{row-in, row-width}
+use Rattle.side_parts.specs.SideLaws.{row-in, row-width}
 use Rattle.pair_series.specs.pair_rows.Rows.{ofTwo, codedSide, sideWork}
 
 -- `is_two`

@@ -17,7 +17,7 @@ use Rattle.side_parts.specs.Sides.{rowAt}
 use Rattle.side_parts.specs.Lent.{Sides, RowsHeld}
 use Rattle.plan.specs.Keys.{firstOf}
 use Rattle.plan.specs.Sets.{SetWork, metPlaces, answersAt, leftsFrom, rightsFrom}
-use Rattle.answers.proofs.Rows.{row-width}
+use Rattle.side_parts.specs.SideLaws.{row-width}
 use Rattle.end_codes.specs.Codes.{codes, bothCode, sideFirst}
 use Rattle.key_ends.specs.Ends.{SideEnds, side-first, ends-at}
 use Rattle.index_lists.specs.Places.{NotedIf, NotedAll}

@@ -11,7 +11,7 @@ use Rattle.model.specs.Row.{zipWith}
 use Rattle.plan.specs.Sets.{setRow, leftRow}
 use Rattle.side_parts.specs.Sides.{rowAt}
 use Rattle.side_parts.specs.Lent.{RowsHeld}
-use Rattle.answers.proofs.Rows as Rows
+use Rattle.side_parts.specs.SideLaws as Rows
 use Rattle.index_lists.specs.Places.{NotedAll, codedMet}
 use Rattle.index_lists.proofs.Meeting.{none-listed, some-listed, met-none, met-one, met-front}
 use Rattle.set_series.specs.set_points.Points.{onReading}

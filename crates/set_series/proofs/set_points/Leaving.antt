@@ -19,7 +19,7 @@ use Rattle.reading.proofs.Nan.{gap-of-missing, gap-of-reading}
 use Rattle.side_parts.specs.Sides.{rowAt}
 use Rattle.plan.specs.Sets.{firstAt, setRow}
 use Rattle.index_lists.specs.Places.{Within}
-use Rattle.answers.proofs.Rows as Rows
+use Rattle.side_parts.specs.SideLaws as Rows
 use Rattle.set_series.specs.declared.set_points.Hit as Code
 use Rattle.set_series.specs.set_points.Points.{hitOf, onReading, partEnd}
 use Rattle.set_series.proofs.Masks.{gap-there, gap-gone}

@@ -3,9 +3,9 @@ use Prim.Native.Nat.{_-_}
 use native.Mathlib.Omega.{arith}
 use lib.ListN.{length}
 use borrow.Author.Needs.{needs}
-use Rattle.answers.proofs.Rows.{Copying, copy-starts, copy-turn, copy-ends}
-use Rattle.answers.proofs.copy_row.Statement.{statement}
-use Rattle.answers.proofs.copy_row.Tie as tie
+use Rattle.side_parts.proofs.Copying.{Copying, copy-starts, copy-turn, copy-ends}
+use Rattle.side_parts.proofs.copy_row.Statement.{statement}
+use Rattle.side_parts.proofs.copy_row.Tie as tie
 
 abbrev Inv-loop : tie.InvT-loop
 Inv-loop dst₀ src i₀ dst i = Copying dst₀ src dst i
