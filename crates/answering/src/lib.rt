@@ -164,13 +164,15 @@ pub fn run(
             if Operator::MAX_SERIES < n {
                 return Outcome::TooLarge;
             }
-            let t = tally(rule, lists, labels, at, &codes[..n]);
-            match answers::room_for(n, shape.points, t, out_labels.len(), out.len()) {
+            let p = shape.points;
+            let listed = &codes[..n];
+            let t = tally(rule, lists, labels, at, listed);
+            match answers::room_for(n, p, t, out_labels.len(), out.len()) {
                 Room::TooLarge => Outcome::TooLarge,
                 Room::TooLong => Outcome::TooLong,
                 Room::Fits => {
-                    put_rows(rule, shape.points, keys, rows, &codes[..n], &marks, out);
-                    let bytes = put_records(rule, lists, labels, at, &codes[..n], out_labels);
+                    put_rows(rule, p, keys, rows, listed, &marks, out);
+                    let bytes = put_records(rule, lists, labels, at, listed, out_labels);
                     Outcome::Answer {
                         series: n,
                         shape,

@@ -31,8 +31,8 @@ array-share-prefix-codes c =
     let h = some .n .given .1 in
     codes-within _ _ _ _ held _ _ _ _ w refl _ h (c .if1 .left)
 
-slice-aggregate-tally : tie.Need-slice-aggregate-tally
-slice-aggregate-tally c =
+slice-aggregate-listed : tie.Need-slice-aggregate-listed
+slice-aggregate-listed c =
     let some = c .before .before .before in
     let plan = some .before .before .before .before in
     let held = plan .before .before .before .before .before .pre in
@@ -58,35 +58,9 @@ room-for-requires c κs =
     let h = some .n .given .1 in
     (c .before .before .if1 .left, held .left .rows .narrow)
 
-array-share-prefix-codes-2 : tie.Need-array-share-prefix-codes-2
-array-share-prefix-codes-2 c =
-    let told = c in
-    let room = told .before .before in
-    let tally = room .before in
-    let few = tally .before .before .if1 .left in
-    let some = tally .before .before .before .before in
-    let plan = some .before .before .before .before in
-    let held = plan .before .before .before .before .before .pre in
-    let w = plan .plan .ensures in
-    let h = some .n .given .1 in
-    codes-within _ _ _ _ held _ _ _ _ w refl _ h few
-
-slice-aggregate-put-rows : tie.Need-slice-aggregate-put-rows
-slice-aggregate-put-rows c =
-    let told = c .before in
-    let room = told .before .before in
-    let tally = room .before in
-    let few = tally .before .before .if1 .left in
-    let some = tally .before .before .before .before in
-    let plan = some .before .before .before .before in
-    let held = plan .before .before .before .before .before .pre in
-    let w = plan .plan .ensures in
-    let h = some .n .given .1 in
-    codes-front _ _ _ _ held _ _ _ _ w refl _ h few
-
 put-rows-requires : tie.Need-put-rows-requires
 put-rows-requires c κs =
-    let told = c .before .before .before in
+    let told = c .before .before in
     let room = told .before .before in
     let tally = room .before in
     let few = tally .before .before .if1 .left in
@@ -108,35 +82,9 @@ put-rows-requires c κs =
       ),
     )
 
-array-share-prefix-codes-3 : tie.Need-array-share-prefix-codes-3
-array-share-prefix-codes-3 c =
-    let told = c .before .before .before .before .before .before in
-    let room = told .before .before in
-    let tally = room .before in
-    let few = tally .before .before .if1 .left in
-    let some = tally .before .before .before .before in
-    let plan = some .before .before .before .before in
-    let held = plan .before .before .before .before .before .pre in
-    let w = plan .plan .ensures in
-    let h = some .n .given .1 in
-    codes-within _ _ _ _ held _ _ _ _ w refl _ h few
-
-slice-aggregate-put-records : tie.Need-slice-aggregate-put-records
-slice-aggregate-put-records c =
-    let told = c .before .before .before .before .before .before .before in
-    let room = told .before .before in
-    let tally = room .before in
-    let few = tally .before .before .if1 .left in
-    let some = tally .before .before .before .before in
-    let plan = some .before .before .before .before in
-    let held = plan .before .before .before .before .before .pre in
-    let w = plan .plan .ensures in
-    let h = some .n .given .1 in
-    codes-front _ _ _ _ held _ _ _ _ w refl _ h few
-
 put-records-requires : tie.Need-put-records-requires
 put-records-requires c κs =
-    let told = c .before .before .before .before .before .before .before .before in
+    let told = c .before .before .before .before .before .before in
     let room = told .before .before in
     let tally = room .before in
     let few = tally .before .before .if1 .left in
@@ -199,8 +147,8 @@ returns-5 c =
 returns-6 : tie.Need-returns-6
 returns-6 c =
     let records = c .before .before in
-    let rows = records .before .before .before .before .before in
-    let told = rows .before .before .before .before in
+    let rows = records .before .before .before .before in
+    let told = rows .before .before .before in
     let room = told .before .before in
     let tally = room .before in
     let few = tally .before .before .if1 .left in
@@ -224,18 +172,14 @@ run-spec =
     (λ c. search needs)
     returns
     array-share-prefix-codes
-    slice-aggregate-tally
+    slice-aggregate-listed
     tally-requires
     room-for-requires
     (λ c. search needs)
     (λ c. search needs)
     (λ c. search needs)
-    array-share-prefix-codes-2
-    slice-aggregate-put-rows
     (λ c. search needs)
     put-rows-requires
-    array-share-prefix-codes-3
-    slice-aggregate-put-records
     put-records-requires
     returns-2
     returns-3
