@@ -1,98 +1,54 @@
 -- `run_keyed` meets its contract. Assumes nothing.
+use mathlib.Core.List.{[], _∷_}
 use borrow.Author.Needs.{needs}
-use Rattle.binop_vector_vector.proofs.dispatch.Matched.{is-logical, not-logical, keyed-exchanged}
-use Rattle.binop_vector_vector.proofs.dispatch.Matched.{sets-ran, pairs-ran, left-ran, right-ran}
+use Rattle.binop_vector_vector.proofs.dispatch.Matched.{first-fits, other-fits, other-below, held-from, rule-ran}
 use Rattle.binop_vector_vector.proofs.dispatch.run_keyed.Statement.{statement}
 use Rattle.binop_vector_vector.proofs.dispatch.run_keyed.Tie as tie
 
 run-requires : tie.Need-run-requires
-run-requires c κs = c .before .before .before .before .before .before .before .before .before .before .pre .1 .both
-
-run-requires-2 : tie.Need-run-requires-2
-run-requires-2 c κs = c .before .before .before .before .before .before .before .before .before .before .before .before .pre .1 .both
-
-run-group-requires : tie.Need-run-group-requires
-run-group-requires c κs =
-    let pre = c .before .before .before .before .before .before .before .before .before .before .before .before .pre in
-    (pre .0, pre .1 .both)
-
-run-group-requires-2 : tie.Need-run-group-requires-2
-run-group-requires-2 c κs =
-    let told = c .before .before .before .before .before .before .before .before .before .before in
-    let pre = told .before .before .before .before .before .before .before .before .before .before .pre in
-    (pre .0, keyed-exchanged _ _ _ (pre .1))
+run-requires c κs =
+    let first = c .before .before .before .before .before .before .before .before .before .before in
+    let start = first .before .before .before .before .before .before .before .before in
+    let x = start .args in
+    held-from _ (first .first-side .ensures .below) _ (x .t4) (x .t5) (x .left-keys ∷ x .right-keys ∷ []) (x .t8) (start .pre .1 .both)
 
 returns : tie.Need-returns
 returns c =
     let run = c .before .before .before .before in
-    let test = run .before .before .before in
-    let start = test .before .before .before .before .before .before .before .before in
+    let first = run .before .before .before .before .before .before .before .before .before .before .before in
+    let rule = first .before in
+    let lists = rule .before in
+    let start = lists .before .before .before .before .before .before in
     let x = start .args in
-    sets-ran (x .query .now) (x .q) _ _ _ _ _ _ (start .pre .1)
-    (is-logical (x .q .operator) _ (test .before .is-logical-op .ensures) (test .if1 .taken)) (run .run .ensures)
-
-returns-2 : tie.Need-returns-2
-returns-2 c =
-    let run = c .before .before .before .before in
-    let told = run .before .before .before in
-    let test = told .before .before in
-    let start = test .before .before .before .before .before .before .before .before in
-    let x = start .args in
-    pairs-ran (x .query .now) (x .q) _ _ _ _ _ _ (start .pre .1) (start .pre .0)
-    (not-logical (x .q .operator) _ (test .before .is-logical-op .ensures) (test .if1 .left)) (told .enum-told .given .1) (run .run2 .ensures)
-
-returns-3 : tie.Need-returns-3
-returns-3 c =
-    let run = c .before .before .before .before in
-    let told = run .before .before .before in
-    let test = told .before .before in
-    let start = test .before .before .before .before .before .before .before .before in
-    let x = start .args in
-    left-ran (x .query .now) (x .q) _ _ _ _ _ _ (start .pre .1) (start .pre .0)
-    (not-logical (x .q .operator) _ (test .before .is-logical-op .ensures) (test .if1 .left)) (told .enum-told2 .given .1) (run .run-group .ensures)
-
-returns-4 : tie.Need-returns-4
-returns-4 c =
-    let run = c .before .before .before .before in
-    let told = run .before .before .before .before .before .before .before .before .before .before .before in
-    let test = told .before .before in
-    let start = test .before .before .before .before .before .before .before .before in
-    let x = start .args in
-    right-ran (x .query .now) (x .q) _ _ _ _ _ _ (start .pre .1) (start .pre .0)
-    (not-logical (x .q .operator) _ (test .before .is-logical-op .ensures) (test .if1 .left)) (told .enum-told3 .given .1) (run .run-group2 .ensures)
+    rule-ran (x .query .now) (x .q) (start .pre .0) _ (x .t4) (x .t5) (x .left-keys ∷ x .right-keys ∷ []) (x .t8) (start .pre .1)
+    _ _ (lists .lists-of .ensures)
+    _ (rule .rule-of .ensures) _ (first .first-side .ensures) _ _ _ _ _ (run .run .ensures)
 
 pub run-keyed-spec : {M : Type 1} → statement M
 run-keyed-spec =
     tie.close
     (tie.spec
-    (λ c. search needs)
-    (λ c. search needs)
-    (λ c. search needs)
     (λ c κs. search needs)
+    (λ c κs. search needs)
+    (λ c κs. search needs)
+    (λ c. search needs)
+    (λ c. first-fits _ (c .first-side .ensures .below))
+    (λ c. c .first-side .ensures .below)
+    (λ c. other-fits _ (c .before .first-side .ensures .below))
+    (λ c. other-below _ (c .before .first-side .ensures .below))
+    (λ c. first-fits _ (c .before .before .first-side .ensures .below))
+    (λ c. c .before .before .first-side .ensures .below)
+    (λ c. other-fits _ (c .before .before .before .first-side .ensures .below))
+    (λ c. other-below _ (c .before .before .before .first-side .ensures .below))
+    (λ c. first-fits _ (c .before .before .before .before .first-side .ensures .below))
+    (λ c. c .before .before .before .before .first-side .ensures .below)
+    (λ c. other-fits _ (c .before .before .before .before .before .first-side .ensures .below))
+    (λ c. other-below _ (c .before .before .before .before .before .first-side .ensures .below))
+    (λ c. first-fits _ (c .before .before .before .before .before .before .first-side .ensures .below))
+    (λ c. c .before .before .before .before .before .before .first-side .ensures .below)
+    (λ c. other-fits _ (c .before .before .before .before .before .before .before .first-side .ensures .below))
+    (λ c. other-below _ (c .before .before .before .before .before .before .before .first-side .ensures .below))
     run-requires
     (λ c. search needs)
     (λ c. search needs)
-    returns
-    (λ c. search needs)
-    run-requires-2
-    (λ c. search needs)
-    run-group-requires
-    (λ c. search needs)
-    (λ c. search needs)
-    (λ c. search needs)
-    (λ c. search needs)
-    (λ c. search needs)
-    (λ c. search needs)
-    (λ c. search needs)
-    (λ c. search needs)
-    (λ c. search needs)
-    run-group-requires-2
-    (λ c. search needs)
-    (λ c. search needs)
-    returns-2
-    (λ c. search needs)
-    (λ c. search needs)
-    returns-3
-    (λ c. search needs)
-    (λ c. search needs)
-    returns-4)
+    returns)
