@@ -6,6 +6,8 @@ use mathlib.Core.Option.{Option, none, some}
 use mathlib.Core.List.{List, [], _∷_, _++_, append-assoc, append-nil}
 use native.Mathlib.Numerals.{add-one}
 use native.Mathlib.Omega.{arith}
+use mir.Syntax.{w64}
+use mir.Val.{Fits}
 use lib.Dec.{eqb, ltb}
 use lib.ListN.{length, getD, take, drop, set, length-set, length-append, length-drop, drop-of-length-le}
 use lib.Seq.{drop-cons, sets, length-take-le, getD-set-same, getD-set-other}
@@ -50,6 +52,10 @@ twice-right l k i h = rw h
 
 pub twice-left : (l : Bool) (k i : ℕ) → l ≡ false → LeftTwice k i ≡ oneTwice l k i
 twice-left l k i h = rw h
+
+-- the second of two
+pub second : 1 < 2
+second = omega arith
 
 -- rows by leaders
 
@@ -211,19 +217,18 @@ module _ (w : JoinWork) (many : Side) (s : Sides) (ks : List ℕ) (ls : List Lab
       end-rows = sym (append-nil (t .sofar))
           ∙ ap (λ (x : List ℕ). t .sofar ++ x) (sym (rw (drop-of-length-le ks h) (rows-none i (drop i ls)))) ∙ t .rows
 
--- the work arrays of a plan: leaders and their last places, hashes, and a row
-pub record Spare (leads lasts hashes work : List ℕ) : Type 0 where
+-- the work arrays of a plan: leaders and their last places, and a row
+pub record Spare (leads lasts work : List ℕ) : Type 0 where
   pub led : length leads ≡ maxSeries
   pub noted : length lasts ≡ maxSeries
-  pub hashed : length hashes ≡ maxSeries
   pub wide : length work ≡ maxPoints
 
 -- the places before i are planned, and the rows that they give are marked; no other row has a mark
 pub record Planning (w : JoinWork) (many : Side) (s : Sides)
-    (ends list₀ marks₀ leads lasts hashes work list marks : List ℕ) (n i : ℕ) : Type 0 where
+    (ends list₀ marks₀ leads lasts work list marks : List ℕ) (n i : ℕ) : Type 0 where
   pub held : BothHeld s
   pub known : SideEnds (s .right .keys) (s .left .keys) ends
-  pub spare : Spare leads lasts hashes work
+  pub spare : Spare leads lasts work
   pub within : i ≤ length (s .left .keys)
   pub small : n ≤ i * maxSeries
   pub long : length list ≡ length list₀
@@ -243,13 +248,12 @@ module _ (w : JoinWork) (many : Side) (s : Sides) (ends list₀ marks₀ : List 
   count = length (s .right .keys)
 
   pub planning-starts : BothHeld s → SideEnds (s .right .keys) (s .left .keys) ends → Clean 0 marks₀
-      → (leads lasts hashes work : List ℕ) → length leads ≡ maxSeries → length lasts ≡ maxSeries
-      → length hashes ≡ maxSeries → length work ≡ maxPoints
-      → Planning w many s ends list₀ marks₀ leads lasts hashes work list₀ marks₀ 0 0
-  planning-starts held known clean leads lasts hashes work led noted hashed wide = record {
+      → (leads lasts work : List ℕ) → length leads ≡ maxSeries → length lasts ≡ maxSeries → length work ≡ maxPoints
+      → Planning w many s ends list₀ marks₀ leads lasts work list₀ marks₀ 0 0
+  planning-starts held known clean leads lasts work led noted wide = record {
     held = held;
     known = known;
-    spare = record { led = led; noted = noted; hashed = hashed; wide = wide };
+    spare = record { led = led; noted = noted; wide = wide };
     within = omega arith;
     small = omega arith;
     long = refl;
@@ -259,8 +263,8 @@ module _ (w : JoinWork) (many : Side) (s : Sides) (ends list₀ marks₀ : List 
     marked = λ j h. absurd (omega arith);
   }
 
-  module _ {leads lasts hashes work list marks : List ℕ} {n i : ℕ}
-      (t : Planning w many s ends list₀ marks₀ leads lasts hashes work list marks n i) where
+  module _ {leads lasts work list marks : List ℕ} {n i : ℕ}
+      (t : Planning w many s ends list₀ marks₀ leads lasts work list marks n i) where
     one-labels : length (sideLabels (s .right)) ≡ count
     one-labels = labels-long (s .right .array) (s .right .at) (s .right .keys) (t .held .right .count)
 
@@ -277,34 +281,28 @@ module _ (w : JoinWork) (many : Side) (s : Sides) (ends list₀ marks₀ : List 
     pub lasts-room : count ≤ length lasts
     lasts-room = omega (arith, t .spare .noted, t .held .right .rows .few)
 
-    pub hashes-room : count ≤ length hashes
-    hashes-room = omega (arith, t .spare .hashed, t .held .right .rows .few)
+    pub hashes-room : count ≤ length work
+    hashes-room = omega (arith, t .spare .wide, t .held .right .rows .few)
 
-    pub work-room : s .shape .points ≤ 1024
-    work-room = t .held .right .rows .narrow
+    module _ (work′ : List ℕ) (e : length work′ ≡ length work) where
+      pub work-room : s .shape .points ≤ length work′
+      work-room = omega (arith, e, t .spare .wide, t .held .right .rows .narrow)
 
-    pub work-part : s .shape .points ≡ length (take (s .shape .points) work)
-    work-part = sym (length-take-le (s .shape .points) work
-        (omega (arith, t .spare .wide, t .held .right .rows .narrow)))
+      pub work-part : s .shape .points ≡ length (take (s .shape .points) work′)
+      work-part = sym (length-take-le (s .shape .points) work′ work-room)
 
-    pub work-again : (d : List ℕ) → length d ≡ length (take (s .shape .points) work)
-        → length (d ++ drop (s .shape .points) work) ≡ length work
-    work-again d e =
-        omega (
-          arith,
-          length-append d (drop (s .shape .points) work),
-          e,
-          length-drop (s .shape .points) work,
-          work-part,
-          t .spare .wide,
-          t .held .right .rows .narrow,
-        )
-
-    pub list-long : length list ≡ length list₀
-    list-long = t .long
-
-    pub marks-long : length marks ≡ length marks₀
-    marks-long = t .words
+      pub work-again : (d : List ℕ) → length d ≡ length (take (s .shape .points) work′)
+          → length (d ++ drop (s .shape .points) work′) ≡ length work
+      work-again d z =
+          omega (
+            arith,
+            length-append d (drop (s .shape .points) work′),
+            z,
+            length-drop (s .shape .points) work′,
+            work-part,
+            work-room,
+            e,
+          )
 
     -- as many rows are noted as are counted
     rows-marked : n ≡ length (notedCodes w many s) → MarksPlanned w s (length (notedCodes w many s)) list marks₀ marks
@@ -332,6 +330,16 @@ module _ (w : JoinWork) (many : Side) (s : Sides) (ends list₀ marks₀ : List 
       pub ends-small : i < maxSeries
       ends-small = omega (arith, h, t .held .left .rows .few)
 
+      pub next-fits : Fits w64 (i + 1)
+      next-fits = omega (arith, ends-small)
+
+      pub fewer-left : length ks - (i + 1) < length ks - i
+      fewer-left = omega (arith, h)
+
+      -- where it stands among words
+      pub word-fits : Fits w64 (i * 8)
+      word-fits = omega (arith, ends-small)
+
       pub code : EndsOf (s .right .keys) (getD ks i 0) (getD ends i 0)
       code = ends-at (s .right .keys) ks ends (t .held .right .rows .few) (t .known) i h
 
@@ -339,7 +347,7 @@ module _ (w : JoinWork) (many : Side) (s : Sides) (ends list₀ marks₀ : List 
       inside = omega (arith, h, labels-long (s .left .array) (s .left .at) ks (t .held .left .count))
 
       module _ (key : ℕ) (hk : key ≡ getD ks i 0) where
-        pub planning-skip : key ≡ dropped → Planning w many s ends list₀ marks₀ leads lasts hashes work list marks n
+        pub planning-skip : key ≡ dropped → Planning w many s ends list₀ marks₀ leads lasts work list marks n
             (i + 1)
         planning-skip e = record {
           held = t .held;
@@ -354,7 +362,10 @@ module _ (w : JoinWork) (many : Side) (s : Sides) (ends list₀ marks₀ : List 
           marked = t .marked;
         }
 
-        module _ (x : List ℕ) (hx : x ≡ recordAt (s .left .array) (s .left .at) i) (leads′ lasts′ : List ℕ)
+        abbrev x : List ℕ
+        x = recordAt (s .left .array) (s .left .at) i
+
+        module _ (leads′ lasts′ : List ℕ)
             (same-leads : length leads′ ≡ length leads) (same-lasts : length lasts′ ≡ length lasts)
             (led : PlaceMarked (getD ends i 0) (leadsFor w s (labelsOf x) key) leads′ lasts′) (p : ℕ)
             (hp : s .shape .points ≡ p) where
@@ -403,7 +414,7 @@ module _ (w : JoinWork) (many : Side) (s : Sides) (ends list₀ marks₀ : List 
               (planned : PlaceDone (w .allowance) i (getD ends i 0) n p (s .right .rows) (take count leads′) list marks
               list′ marks′ v) where
             here : getD ls i noLabels ≡ labelsOf x
-            here = labels-here (s .left .array) (s .left .at) ks (t .held .left .count) i h ∙ ap labelsOf (sym hx)
+            here = labels-here (s .left .array) (s .left .at) ks (t .held .left .count) i h
 
             by-lead : PlacePlanned (w .allowance) i n (s .shape .points) (s .right .rows) lead list marks list′ marks′ v
             by-lead =
@@ -488,16 +499,14 @@ module _ (w : JoinWork) (many : Side) (s : Sides) (ends list₀ marks₀ : List 
                   let is : leadsAt w s (manyPlace (getD list′ j 0)) ≡ lead = rw (place, ← hk, here) in
                   rw is (rows .marks j a b l (omega (arith, r, t .words)))
 
-              pub planning-rows : (hashes′ : List ℕ) → length hashes′ ≡ length hashes → (work′ : List ℕ)
-                  → length work′ ≡ length work
-                  → Planning w many s ends list₀ marks₀ leads′ lasts′ hashes′ work′ list′ marks′ c (i + 1)
-              planning-rows hashes′ hh work′ hw = record {
+              pub planning-rows : (work′ : List ℕ) → length work′ ≡ length work
+                  → Planning w many s ends list₀ marks₀ leads′ lasts′ work′ list′ marks′ c (i + 1)
+              planning-rows work′ hw = record {
                 held = t .held;
                 known = t .known;
                 spare = record {
                   led = same-leads ∙ t .spare .led;
                   noted = same-lasts ∙ t .spare .noted;
-                  hashed = hh ∙ t .spare .hashed;
                   wide = hw ∙ t .spare .wide;
                 };
                 within = omega arith;

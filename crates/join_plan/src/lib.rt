@@ -60,7 +60,7 @@ pub fn plan_join(
     key_ends::side_ends(one, many, &mut ends);
     let mut leads = [0usize; 512];
     let mut lasts = [0usize; 512];
-    let mut hashes = [0u64; 512];
+    // the hashes of a place's leaders, then a row that their merges are tried in
     let mut work = [0u64; 1024];
     let mut n: usize = 0;
     let mut i: usize = 0;
@@ -69,19 +69,18 @@ pub fn plan_join(
         let k = many[m];
         i += 1;
         if k != key_ends::DROPPED {
-            let rec = side_parts::record(labels[0], at[0], m);
             let c = ends[m];
             place_plans::place_leads(
-                rec,
+                m,
                 k,
                 c,
-                labels[1],
-                at[1],
+                labels,
+                at,
                 one,
                 lists,
                 &mut leads,
                 &mut lasts,
-                &mut hashes,
+                &mut work,
             );
             match place_plans::plan_place(
                 m,

@@ -4,9 +4,10 @@ use crate::join_leads;
 use crate::join_leads::Checked;
 use crate::lead_marks;
 ghost use mathlib.Core.Path.{_≡_};
-ghost use Prim.Native.Nat.{_+_, _*_, _≤_};
+ghost use Prim.Native.Nat.{_+_, _*_, _≤_, _<_};
 ghost use lib.ListN.{length};
 ghost use Rattle.labels.specs.Names.{namesOf};
+ghost use Rattle.side_parts.specs.Sides.{recordAt, Positions};
 ghost use Rattle.side_parts.specs.Lent.{RecordsHeld, lent};
 ghost use Rattle.key_ends.specs.Ends.{EndsOf};
 ghost use Rattle.join_plan.specs.lead_marks.Marks.{leadsIn, LastsNoted};
@@ -100,30 +101,33 @@ pub(crate) fn plan_place(
     )
 }
 
-// The leaders for a many-side record of the key k, whose code is c, marked where the key has several series on the one
-// side. The hashes are a work array.
-pub(crate) fn place_leads<'a>(
-    rec: &'a [u8],
+// The leaders for the many-side place m of the key k, whose code is c, marked where the key has several series on the
+// one side. The hashes are a work array.
+pub(crate) fn place_leads(
+    m: usize,
     k: usize,
     c: usize,
-    array: &'a [u8],
-    at: &[usize],
+    labels: [&[u8]; 2],
+    at: [&[usize]; 2],
     keys: &[usize],
     lists: [&[u8]; 2],
     leads: &mut [usize],
     lasts: &mut [usize],
     hashes: &mut [u64],
 )
-    requires records { ⌜ RecordsHeld (now array) (now at) ⌝ }
-    requires count { ⌜ length (now at) ≡ length (now keys) + 1 ⌝ }
+    requires many { ⌜ Positions (lent labels 0) (lent at 0) ⌝ }
+    requires place { ⌜ m + 1 < length (lent at 0) ⌝ }
+    requires records { ⌜ RecordsHeld (lent labels 1) (lent at 1) ⌝ }
+    requires count { ⌜ length (lent at 1) ≡ length (now keys) + 1 ⌝ }
     requires ends { ⌜ EndsOf (now keys) k c ⌝ }
     requires room { ⌜ length (now keys) ≤ length (now leads) ⌝ }
     requires noted { ⌜ length (now keys) ≤ length (now lasts) ⌝ }
     requires hashed { ⌜ length (now keys) ≤ length (now hashes) ⌝ }
     ensures { λ _. ⌜
         PlaceMarked c
-        (leadsIn (namesOf (lent (lists .entry) 0)) (namesOf (lent (lists .entry) 1)) (now (rec .entry)) k
-        (now (array .entry)) (now (at .entry)) (now (keys .entry))) (now (leads .exit)) (now (lasts .exit))
+        (leadsIn (namesOf (lent (lists .entry) 0)) (namesOf (lent (lists .entry) 1))
+        (recordAt (lent (labels .entry) 0) (lent (at .entry) 0) m) k (lent (labels .entry) 1) (lent (at .entry) 1)
+        (now (keys .entry))) (now (leads .exit)) (now (lasts .exit))
         ⌝ }
 {
     let first = end_codes::side_first(c);
@@ -131,7 +135,19 @@ pub(crate) fn place_leads<'a>(
     if first == last {
         return;
     }
-    lead_marks::mark_leads(rec, k, first, last, array, at, keys, lists, leads, hashes);
+    let rec = side_parts::record(labels[0], at[0], m);
+    lead_marks::mark_leads(
+        rec,
+        k,
+        first,
+        last,
+        labels[1],
+        at[1],
+        keys,
+        lists,
+        leads,
+        hashes,
+    );
     let end = last + 1;
     lead_marks::note_lasts(&leads[..end], first, lasts);
 }

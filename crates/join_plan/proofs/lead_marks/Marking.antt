@@ -1,5 +1,5 @@
 -- `find_lead`, `mark_leads`, `note_lasts`: leaders marked place by place, and their last places. Assumes nothing.
-use Prim.Native.Nat.{ℕ, zero, suc, _+_, _-_, _≤_, _<_}
+use Prim.Native.Nat.{ℕ, zero, suc, _+_, _-_, _*_, _≤_, _<_}
 use mathlib.Core.Path.{_≡_, refl, sym, ap, _∙_}
 use mathlib.Core.Bool.{Bool, true, false, cond, _&&_}
 use mathlib.Core.List.{List}
@@ -374,11 +374,12 @@ module _ {join skip : Names} {many : List ℕ} {k : ℕ} {array at keys leads₀
     pub next-fits : Fits w64 (o + 1)
     next-fits = omega (arith, s .inside, s .so .few)
 
-  pub leads-kept : length leads ≡ length leads₀
-  leads-kept = s .long
+    -- where it stands among words
+    pub word-fits : Fits w64 (o * 8)
+    word-fits = omega (arith, s .inside, s .so .few)
 
-  pub hashes-kept : length hashes ≡ length hashes₀
-  hashes-kept = s .kept
+    pub fewer-left : last + 1 - (o + 1) < last + 1 - o
+    fewer-left = omega (arith, h)
 
 pub hash-here : (join skip : Names) (many array at : List ℕ) (o h : ℕ) (x : List ℕ) → x ≡ recordAt array at o
     → h ≡ hashOf (editedTags join skip many x)
