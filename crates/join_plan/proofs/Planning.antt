@@ -53,10 +53,6 @@ twice-right l k i h = rw h
 pub twice-left : (l : Bool) (k i : ℕ) → l ≡ false → LeftTwice k i ≡ oneTwice l k i
 twice-left l k i h = rw h
 
--- the second of two
-pub second : 1 < 2
-second = omega arith
-
 -- rows by leaders
 
 lead-rows-few : (m o : ℕ) (leads : List ℕ) → length (leadRows m o leads) ≤ length leads

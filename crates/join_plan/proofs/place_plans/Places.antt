@@ -34,6 +34,14 @@ use Rattle.join_plan.proofs.lead_marks.Leaders.{leads-among-long, leads
 use Rattle.join_plan.proofs.join_leads.Checking.{front-held}
 use Rattle.join_plan.proofs.join_leads.Sole.{sole-long, sole-clash, nowhere-rows, sole-rows, not-led, sole-leads}
 
+-- of two slices in an array
+
+pub first-there : 0 < 2
+first-there = omega arith
+
+pub second-there : 1 < 2
+second-there = omega arith
+
 -- `plan_leads`
 
 noted-rows : (rows : List ℕ) (n : ℕ) (before after : List ℕ) (c : ℕ) → NotedAll rows n before after c

@@ -5,9 +5,10 @@ use mathlib.Core.Path.{refl, sym, _∙_}
 use lib.ListN.{length}
 use Rattle.side_parts.specs.Lent.{sides, lent, shapeOf}
 use Rattle.join_series.specs.Works.{manySide, workBy}
+use Rattle.join_plan.proofs.place_plans.Places.{first-there, second-there}
 use Rattle.join_plan.proofs.Planning.{Planning, planning-starts, planning-skip, planning-rows, planning-failed}
 use Rattle.join_plan.proofs.Planning.{planning-ends, marks-end, marks-failed, work-room, work-part, work-again}
-use Rattle.join_plan.proofs.Planning.{second, word-fits, next-fits, fewer-left, code, record-inside, ends-small}
+use Rattle.join_plan.proofs.Planning.{word-fits, next-fits, fewer-left, code, record-inside, ends-small}
 use Rattle.join_plan.proofs.Planning.{place-held, leads-room, leads-there, leads-part, lasts-room, hashes-room}
 use Rattle.join_plan.proofs.Planning.{after-long, words-after}
 use Rattle.join_plan.proofs.plan_join.Statement.{statement}
@@ -192,8 +193,8 @@ plan-join-spec =
     (tie.spec
     Inv-loop
     μ-loop
-    (λ c. search needs)
-    (λ c. search needs)
+    (λ c. first-there)
+    (λ c. second-there)
     (λ c. search needs)
     (λ c κs. search needs)
     (λ c. search planning-starts)
@@ -206,7 +207,7 @@ plan-join-spec =
     (λ c. sym (c .before .before .before .before .before .loop .inv .spare .noted))
     (λ c. sym (c .before .before .before .before .before .before .loop .inv .spare .wide))
     place-leads-requires
-    (λ c. second)
+    (λ c. second-there)
     array-share-prefix-leads
     slice-aggregate-plan-place
     slice-aggregate-plan-place-2

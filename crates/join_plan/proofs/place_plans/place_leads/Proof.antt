@@ -1,10 +1,14 @@
 -- `place_leads` meets its contract. Assumes nothing.
-use borrow.Author.Needs.{needs}
 use Rattle.model.specs.Laws.Lists.{front-long}
 use Rattle.join_plan.proofs.place_plans.Places.{unmarked-leads, ends-few, key-ends, key-order, key-last}
 use Rattle.join_plan.proofs.place_plans.Places.{last-fits, front-there, front-first, front-room, marked-leads}
+use Rattle.join_plan.proofs.place_plans.Places.{first-there, second-there}
 use Rattle.join_plan.proofs.place_plans.place_leads.Statement.{statement}
 use Rattle.join_plan.proofs.place_plans.place_leads.Tie as tie
+
+returns : tie.Need-returns
+returns c =
+    unmarked-leads _ _ _ _ _ _ (c .before .before .side-first .ensures) (c .before .side-last .ensures) (c .if1 .taken)
 
 record-requires : tie.Need-record-requires
 record-requires c κs =
@@ -44,6 +48,31 @@ add-end c =
     last-fits _ _ _ ends _ _ (apart .before .before .side-first .ensures) (apart .before .side-last .ensures)
     (apart .if1 .left)
 
+slice-reshare-prefix-note-lasts : tie.Need-slice-reshare-prefix-note-lasts
+slice-reshare-prefix-note-lasts c =
+    let marked = c .before .before .before .before in
+    let apart = marked .before .before .before .before .before .before .before .before in
+    let start = apart .before .before .before .before .before .before .before in
+    let pre = start .pre .1 .1 .1 .1 in
+    let first = apart .before .before .side-first .ensures in
+    let last = apart .before .side-last .ensures in
+    let after = marked .mark-leads .last .1 .1 .1 .1 .1 .1 .1 .1 .0 in
+    let long = marked .mark-leads .kept .1 .1 .1 .1 .1 .1 .1 .1 .0 in
+    front-there _ _ _ (pre .0) _ _ first last (apart .if1 .left) (start .args .leads .now) after (pre .1 .0) long
+
+slice-aggregate-note-lasts : tie.Need-slice-aggregate-note-lasts
+slice-aggregate-note-lasts c =
+    let marked = c .before .before .before .before .before in
+    let apart = marked .before .before .before .before .before .before .before .before in
+    let start = apart .before .before .before .before .before .before .before in
+    let pre = start .pre .1 .1 .1 .1 in
+    let first = apart .before .before .side-first .ensures in
+    let last = apart .before .side-last .ensures in
+    let after = marked .mark-leads .last .1 .1 .1 .1 .1 .1 .1 .1 .0 in
+    let long = marked .mark-leads .kept .1 .1 .1 .1 .1 .1 .1 .1 .0 in
+    front-long _ after
+    (front-there _ _ _ (pre .0) _ _ first last (apart .if1 .left) (start .args .leads .now) after (pre .1 .0) long)
+
 note-lasts-requires : tie.Need-note-lasts-requires
 note-lasts-requires c κs =
     let marked = c .before .before .before .before .before .before in
@@ -59,6 +88,19 @@ note-lasts-requires c κs =
           (start .args .lasts .now) (pre .1 .1 .0),
     )
 
+leads-long : tie.Need-same-length
+leads-long c =
+    let marked = c .before .before .before .before .before .before .before .before .before in
+    marked .mark-leads .kept .1 .1 .1 .1 .1 .1 .1 .1 .0
+
+lasts-long : tie.Need-same-length-2
+lasts-long c = c .before .before .note-lasts .kept .1 .1 .0
+
+hashes-long : tie.Need-same-length-3
+hashes-long c =
+    let marked = c .before .before .before .before .before .before .before .before .before in
+    marked .mark-leads .kept .1 .1 .1 .1 .1 .1 .1 .1 .1 .0
+
 returns-2 : tie.Need-returns-2
 returns-2 c =
     let noted = c .before .before in
@@ -72,20 +114,20 @@ pub place-leads-spec : {M : Type 1} → statement M
 place-leads-spec =
     tie.close
     (tie.spec
-    (λ c κs. search needs)
-    (λ c κs. search needs)
-    (λ c. search unmarked-leads)
-    (λ c. search needs)
-    (λ c. search needs)
+    (λ c κs. tt)
+    (λ c κs. tt)
+    returns
+    (λ c. first-there)
+    (λ c. first-there)
     record-requires
-    (λ c. search needs)
-    (λ c. search needs)
+    (λ c. second-there)
+    (λ c. second-there)
     mark-leads-requires
     add-end
-    (λ c. search front-there)
-    (λ c. front-long _ _ (search front-there))
+    slice-reshare-prefix-note-lasts
+    slice-aggregate-note-lasts
     note-lasts-requires
-    (λ c. search needs)
-    (λ c. search needs)
-    (λ c. search needs)
+    leads-long
+    lasts-long
+    hashes-long
     returns-2)
