@@ -21,7 +21,7 @@ use Rattle.plan.specs.Laws.Common.{both-none}
 use Rattle.plan.specs.Laws.Ends.{last-within, last-is, first-last}
 use Rattle.overwriting.specs.Several.{single-row, several-row}
 use Rattle.end_codes.specs.Codes.{leftFirst, leftLast, rightFirst, rightLast}
-use Rattle.key_ends.specs.Ends.{pairCode, CodeOf, left-last, right-last, left-ends, right-ends}
+use Rattle.key_ends.specs.Ends.{pairCode, CodeOf, left-last, left-ends, right-ends}
 use Rattle.side_parts.specs.Sides.{recordAt}
 use Rattle.side_parts.specs.SideLaws.{labels-at}
 use Rattle.side_parts.specs.Lent.{Sides, sideLabels, BothHeld}
@@ -32,6 +32,7 @@ use Rattle.pair_records.proofs.Adjusting.{adjusted-kept}
 use Rattle.pair_plan.specs.pairs.Pairing.{codesFrom, pairCodes}
 use Rattle.pair_plan.specs.pair_checks.Checks.{failureOf}
 use Rattle.pair_plan.proofs.pairs.Pairing.{pair-left, pair-right}
+use Rattle.pair_plan.proofs.pair_checks.Checks.{code-in}
 use Rattle.pair_plan.proofs.pairs.Lists.{codes-at-most}
 
 -- a side of a key whose series become a single one
@@ -82,13 +83,6 @@ module _ (s : Sides) (held : BothHeld s) (k i : ℕ) (pairs : isPair (s .left .k
 
   stands-right : firstOf (s .right .keys) k < length (s .right .keys)
   stands-right = pair-right (s .left .keys) (s .right .keys) k i true (sym pairs) refl
-
-  code-in : PairCode s (codeOf s k)
-  code-in = record {
-    left = rw at-last (last-within k (s .left .keys) stands-left);
-    right = rw (right-last (s .left .keys) (s .right .keys) k (codeOf s k) code)
-        (last-within k (s .right .keys) stands-right);
-  }
 
   module _ (q : Model.Query) (clear : pairClash (allowedOverlaps q) s k ≡ none) where
     abbrev last : ℕ
@@ -162,7 +156,9 @@ module _ (s : Sides) (held : BothHeld s) where
   codes-each [] i w r h = absurd (omega arith)
   codes-each (k ∷ rest) i w r h =
       either-each (PairCode s) (pairsAt k i) (codeOf s k) (codesOn (suc i) rest)
-      (λ e. code-in s held k i e (omega arith)) (codes-each rest (suc i) (omega arith)) r h
+      (λ e.
+      code-in s k (codeOf s k) (code s held k i e (omega arith)) (stands-left s held k i e (omega arith))
+      (stands-right s held k i e (omega arith))) (codes-each rest (suc i) (omega arith)) r h
 
   -- the places of a code stand on both sides
   pub codes-in : (r : ℕ) → r < length (pairCodes s) → PairCode s (getD (pairCodes s) r 0)

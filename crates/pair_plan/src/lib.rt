@@ -1,5 +1,4 @@
 // The plan of one-to-one: every merge tried, then the codes of the answer's rows listed.
-mod tried_merges; // what is asked before rows are merged
 mod pairs; // which left series begin a pair, and the codes of the pairs
 mod pair_checks; // the merges tried, key by key
 

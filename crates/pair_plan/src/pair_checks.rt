@@ -1,18 +1,35 @@
 // The merges of one-to-one tried, key by key; nothing is written but a work row.
 use crate::pairs;
-use crate::tried_merges;
 use merging::Merges;
 ghost use mathlib.Core.Path.{_≡_};
-ghost use mathlib.Core.Bool.{true};
-ghost use mathlib.Core.Option.{none};
-ghost use Prim.Native.Nat.{_≤_, _<_};
+ghost use Prim.Native.Nat.{_+_, _*_, _≤_, _<_};
 ghost use lib.ListN.{length, getD};
+ghost use Rattle.model.specs.Row.{merged};
+ghost use Rattle.merge.specs.Merging.{mergedIf};
 ghost use Rattle.plan.specs.Keys.{firstOf, KeyEnds};
 ghost use Rattle.plan.specs.Merging.{mergeLast};
 ghost use Rattle.plan.specs.Pairs.{pairClash, pairsClash};
+ghost use Rattle.side_parts.specs.Sides.{rowAt};
 ghost use Rattle.side_parts.specs.Lent.{RowsHeld, unlabelled, BothRowsHeld, Sides};
 ghost use Rattle.key_ends.specs.Ends.{CodeOf, PairEnds};
-ghost use Rattle.pair_plan.specs.pair_checks.Checks.{failureOf, failedIn, clashIn, clashAt};
+ghost use Rattle.pair_series.specs.pair_rows.Rows.{PairCode};
+ghost use Rattle.pair_plan.specs.pair_checks.Checks.{failureOf, failedIn, twosMerge, clashIn, clashAt};
+
+// Whether the row of one series merges into that of another; nothing is written.
+fn row_merges(rows: &[u64], p: usize, into: usize, from: usize, allowance: usize) -> bool
+    requires { ⌜ into * p + p ≤ length (now rows) ⌝ }
+    requires { ⌜ from * p + p ≤ length (now rows) ⌝ }
+    ensures { λ r. ⌜
+        mergedIf r (rowAt p (now (rows .entry)) into) (rowAt p (now (rows .entry)) from) ≡ merged allowance
+        (rowAt p (now (rows .entry)) into) (rowAt p (now (rows .entry)) from)
+        ⌝ }
+{
+    merge::merges(
+        side_parts::row(rows, p, into),
+        side_parts::row(rows, p, from),
+        allowance,
+    )
+}
 
 // Whether several series of a key become a single one: the first is tried on the last with no copy, and only where
 // others stand between them is it put over the last, at the start of a work row, and they are merged into that.
@@ -33,24 +50,16 @@ fn ensure_merges(
     ensures { λ r. ⌜ failedIn r ≡ failureOf (mergeLast allowance p (now (rows .entry)) (now (keys .entry)) k) ⌝ }
     ensures { λ r. ⌜ length (now (work .exit)) ≡ length (now (work .entry)) ⌝ }
 {
-    if tried_merges::row_merges(rows, p, last, first, allowance) {
-        if tried_merges::stands_between(keys, k, first + 1, last) {
-            merge::put_overwritten(
-                &mut work[..p],
-                side_parts::row(rows, p, last),
-                side_parts::row(rows, p, first),
-            );
-            return merging::merge_between(
-                rows,
-                keys,
-                k,
-                first + 1,
-                last,
-                allowance,
-                &mut work[..p],
-            );
+    if row_merges(rows, p, last, first, allowance) {
+        if key_places::are_two(keys, k, first, last) {
+            return Merges::Done;
         }
-        return Merges::Done;
+        merge::put_overwritten(
+            &mut work[..p],
+            side_parts::row(rows, p, last),
+            side_parts::row(rows, p, first),
+        );
+        return merging::merge_between(rows, keys, k, first + 1, last, allowance, &mut work[..p]);
     }
     Merges::FailedAt(first)
 }
@@ -136,37 +145,22 @@ fn check_pair(
     }
 }
 
-// Whether the two series of a key on each side merge, where it has exactly two there: both sides are tried at once.
-fn two_merge(
-    allowance: usize,
-    p: usize,
-    keys: [&[usize]; 2],
-    rows: [&[u64]; 2],
-    k: usize,
-    c: usize,
-) -> bool
+// Whether a code has exactly two series on each side, and they merge: both sides are tried at once.
+fn two_merge(allowance: usize, p: usize, keys: [&[usize]; 2], rows: [&[u64]; 2], c: usize) -> bool
     ghost { Sides }
     requires { λ s. ⌜ unlabelled p keys rows ≡ s ⌝ }
     requires { λ s. ⌜ BothRowsHeld s ⌝ }
-    requires { λ s. ⌜ CodeOf (s .left .keys) (s .right .keys) k c ⌝ }
-    requires { λ s. ⌜ firstOf (s .left .keys) k < length (s .left .keys) ⌝ }
-    requires { λ s. ⌜ firstOf (s .right .keys) k < length (s .right .keys) ⌝ }
-    ensures { λ s r. ⌜ (r ≡ true → none ≡ pairClash allowance s k) ⌝ }
+    requires { λ s. ⌜ PairCode s c ⌝ }
+    ensures { λ s r. ⌜ r ≡ twosMerge allowance s c ⌝ }
 {
-    let first = end_codes::left_first(c);
-    let last = end_codes::left_last(c);
-    if tried_merges::are_two(keys[0], k, first, last) {
-        let other_first = end_codes::right_first(c);
-        let other_last = end_codes::right_last(c);
-        if tried_merges::are_two(keys[1], k, other_first, other_last) {
-            return merge::both_merge(
-                side_parts::row(rows[0], p, last),
-                side_parts::row(rows[0], p, first),
-                side_parts::row(rows[1], p, other_last),
-                side_parts::row(rows[1], p, other_first),
-                allowance,
-            );
-        }
+    if key_places::both_two(keys, c) {
+        return merge::both_merge(
+            side_parts::row(rows[0], p, end_codes::left_last(c)),
+            side_parts::row(rows[0], p, end_codes::left_first(c)),
+            side_parts::row(rows[1], p, end_codes::right_last(c)),
+            side_parts::row(rows[1], p, end_codes::right_first(c)),
+            allowance,
+        );
     }
     false
 }
@@ -191,7 +185,7 @@ fn try_pair(
     ensures { λ s r. ⌜ clashIn r ≡ pairClash allowance s k ⌝ }
     ensures { λ s r. ⌜ length (now (work .exit)) ≡ length (now (work .entry)) ⌝ }
 {
-    if two_merge(allowance, p, keys, rows, k, c) {
+    if two_merge(allowance, p, keys, rows, c) {
         return Checked::Fine;
     }
     check_pair(allowance, p, keys, rows, k, c, work)

@@ -2,12 +2,12 @@
 // from one step to the next.
 use operator::Operator;
 ghost use mathlib.Core.Path.{_≡_};
-ghost use Prim.Native.Nat.{_≤_, _<_};
+ghost use Prim.Native.Nat.{_<_};
 ghost use lib.ListN.{length};
 ghost use Rattle.model.specs.Reading.{scalarOp};
 ghost use Rattle.model.specs.Row.{zipWith, overwritten};
 ghost use Rattle.answers.specs.Outcomes.{startingWith};
-ghost use Rattle.pair_series.specs.pair_parts.Parts.{PartEnd};
+ghost use Rattle.pair_series.specs.pair_parts.Parts.{PartEnd, PartsFit};
 
 // The operator on two sides of the same width, each a source over its destination in a work row.
 fn put_part(
@@ -60,12 +60,10 @@ pub(crate) fn put_parts(
     right_work: &mut [u64],
     out: &mut [u64],
 )
-    requires { ⌜ length (now «left_dst») ≡ length (now out) ⌝ }
-    requires { ⌜ length (now «left_src») ≡ length (now out) ⌝ }
-    requires { ⌜ length (now «right_dst») ≡ length (now out) ⌝ }
-    requires { ⌜ length (now «right_src») ≡ length (now out) ⌝ }
-    requires { ⌜ length (now out) ≤ length (now «left_work») ⌝ }
-    requires { ⌜ length (now out) ≤ length (now «right_work») ⌝ }
+    requires { ⌜
+        PartsFit (now «left_dst») (now «left_src») (now «right_dst») (now «right_src») (now «left_work»)
+        (now «right_work») (now out)
+        ⌝ }
     ensures { λ _. ⌜
         now (out .exit) ≡ zipWith (scalarOp op «as_bool»)
         (overwritten (now («left_dst» .entry)) (now («left_src» .entry)))

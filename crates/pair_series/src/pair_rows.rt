@@ -3,50 +3,38 @@ use crate::pair_parts;
 use operator::Operator;
 ghost use mathlib.Core.Path.{_≡_};
 ghost use mathlib.Core.Bool.{true};
-ghost use Prim.Native.Nat.{_≤_, _<_};
+ghost use Prim.Native.Nat.{_+_, _*_, _≤_, _<_};
 ghost use lib.ListN.{length};
-ghost use Rattle.model.specs.Reading.{scalarOp};
-ghost use Rattle.model.specs.Row.{zipWith};
 ghost use Rattle.side_parts.specs.Lent.{RowsHeld, unlabelled, BothRowsHeld, Sides};
-ghost use Rattle.end_codes.specs.Codes.{leftFirst, leftLast, rightFirst, rightLast};
-ghost use Rattle.pair_series.specs.pair_rows.Rows.{ofTwo, codedSide, codedPairRow, PairCode};
+ghost use Rattle.key_places.specs.Two.{bothTwo};
+ghost use Rattle.pair_series.specs.pair_rows.Rows.{readSide, codedPairRow, PairCode};
 ghost use Rattle.pair_series.specs.pair_rows.Rows.{sideWork, leftWork, rightWork};
 
-// The operator on a left row and the right side's row of a code. A side of one series goes to the operator as it is,
-// one of several is put together at the start of a work row.
-fn with_right(
-    op: Operator,
-    as_bool: bool,
-    left: &[u64],
-    keys: &[usize],
-    rows: &[u64],
-    code: usize,
-    work: &mut [u64],
-    out: &mut [u64],
-)
-    requires { ⌜ RowsHeld (length (now out)) (now rows) (now keys) ⌝ }
-    requires { ⌜ rightLast code < length (now keys) ⌝ }
-    requires { ⌜ length (now left) ≡ length (now out) ⌝ }
-    requires { ⌜ length (now out) ≤ length (now work) ⌝ }
+// Puts the series of a side together at the start of a work row, where there are several.
+fn put_side(keys: &[usize], rows: &[u64], first: usize, last: usize, p: usize, work: &mut [u64])
+    requires { ⌜ RowsHeld p (now rows) (now keys) ⌝ }
+    requires { ⌜ last < length (now keys) ⌝ }
+    requires { ⌜ p ≤ length (now work) ⌝ }
     ensures { λ _. ⌜
-        now (out .exit) ≡ zipWith (scalarOp op «as_bool») (now (left .entry))
-        (codedSide (length (now (out .entry))) (now (rows .entry)) (now (keys .entry)) (rightFirst code)
-        (rightLast code))
-        ⌝ }
-    ensures { λ _. ⌜
-        now (work .exit) ≡ sideWork (length (now (out .entry))) (now (rows .entry)) (now (keys .entry))
-        (rightFirst code) (rightLast code) (now (work .entry))
+        now (work .exit) ≡ sideWork p (now (rows .entry)) (now (keys .entry)) first last (now (work .entry))
         ⌝ }
 {
-    let p = out.len();
-    let first = end_codes::right_first(code);
-    let last = end_codes::right_last(code);
     if last <= first {
-        rows::apply_rows(op, as_bool, left, side_parts::row(rows, p, last), out);
         return;
     }
     overwriting::put_several(rows, keys, first, last, &mut work[..p]);
-    rows::apply_rows(op, as_bool, left, &work[..p], out);
+}
+
+// The row of a side: its own where it has one series, else the start of a work row.
+fn side_row<'a>(rows: &'a [u64], first: usize, last: usize, p: usize, work: &'a [u64]) -> &'a [u64]
+    requires { ⌜ last * p + p ≤ length (now rows) ⌝ }
+    requires { ⌜ p ≤ length (now work) ⌝ }
+    ensures { λ r. ⌜ now r ≡ readSide p (now (rows .entry)) first last (now (work .entry)) ⌝ }
+{
+    if last <= first {
+        return side_parts::row(rows, p, last);
+    }
+    &work[..p]
 }
 
 // Writes the answer row of a code, one side after the other.
@@ -73,41 +61,13 @@ fn put_side_by_side(
     let p = out.len();
     let first = end_codes::left_first(code);
     let last = end_codes::left_last(code);
-    if last <= first {
-        with_right(
-            op,
-            as_bool,
-            side_parts::row(rows[0], p, last),
-            keys[1],
-            rows[1],
-            code,
-            right_work,
-            out,
-        );
-        return;
-    }
-    overwriting::put_several(rows[0], keys[0], first, last, &mut left_work[..p]);
-    with_right(
-        op,
-        as_bool,
-        &left_work[..p],
-        keys[1],
-        rows[1],
-        code,
-        right_work,
-        out,
-    );
-}
-
-// Whether a side of a code has exactly two series: its ends, with none of their key between them.
-fn is_two(keys: &[usize], first: usize, last: usize) -> bool
-    requires { ⌜ last < length (now keys) ⌝ }
-    ensures { λ r. ⌜ r ≡ ofTwo (now (keys .entry)) first last ⌝ }
-{
-    if last <= first {
-        return false;
-    }
-    last - (first + 1) <= key_places::first_of(&keys[first + 1..last], keys[last])
+    put_side(keys[0], rows[0], first, last, p, left_work);
+    let left = side_row(rows[0], first, last, p, left_work);
+    let first = end_codes::right_first(code);
+    let last = end_codes::right_last(code);
+    put_side(keys[1], rows[1], first, last, p, right_work);
+    let right = side_row(rows[1], first, last, p, right_work);
+    rows::apply_rows(op, as_bool, left, right, out);
 }
 
 // Writes the answer row of a code of two series on each side.
@@ -127,8 +87,7 @@ fn put_two(
     requires { λ s. ⌜ PairCode s code ⌝ }
     requires { λ s. ⌜ length (now out) ≤ length (now «left_work») ⌝ }
     requires { λ s. ⌜ length (now out) ≤ length (now «right_work») ⌝ }
-    requires { λ s. ⌜ ofTwo (s .left .keys) (leftFirst code) (leftLast code) ≡ true ⌝ }
-    requires { λ s. ⌜ ofTwo (s .right .keys) (rightFirst code) (rightLast code) ≡ true ⌝ }
+    requires { λ s. ⌜ bothTwo (s .left .keys) (s .right .keys) code ≡ true ⌝ }
     ensures { λ s _. ⌜ now (out .exit) ≡ codedPairRow op «as_bool» s code ⌝ }
     ensures { λ s _. ⌜ now («left_work» .exit) ≡ leftWork s code (now («left_work» .entry)) ⌝ }
     ensures { λ s _. ⌜ now («right_work» .exit) ≡ rightWork s code (now («right_work» .entry)) ⌝ }
@@ -168,19 +127,9 @@ pub fn put_pair_row(
     ensures { λ s _. ⌜ now («left_work» .exit) ≡ leftWork s code (now («left_work» .entry)) ⌝ }
     ensures { λ s _. ⌜ now («right_work» .exit) ≡ rightWork s code (now («right_work» .entry)) ⌝ }
 {
-    if is_two(
-        keys[0],
-        end_codes::left_first(code),
-        end_codes::left_last(code),
-    ) {
-        if is_two(
-            keys[1],
-            end_codes::right_first(code),
-            end_codes::right_last(code),
-        ) {
-            put_two(op, as_bool, keys, rows, code, left_work, right_work, out);
-            return;
-        }
+    if key_places::both_two(keys, code) {
+        put_two(op, as_bool, keys, rows, code, left_work, right_work, out);
+        return;
     }
     put_side_by_side(op, as_bool, keys, rows, code, left_work, right_work, out);
 }

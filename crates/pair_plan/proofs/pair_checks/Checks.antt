@@ -6,16 +6,16 @@ use mathlib.Core.Option.{none, some}
 use mathlib.Core.List.{List, _++_}
 use native.Mathlib.Numerals.{add-one}
 use native.Mathlib.Omega.{arith}
-use lib.Dec.{ltb}
 use lib.ListN.{length, getD, take, drop, length-append, length-drop, drop-of-length-le}
 use lib.Seq.{drop-cons, length-take-le, take-at}
-use borrow.Author.Tests.{ltb-false}
 use Rattle.model.specs.Row.{overwritten, merged}
 use Rattle.model.specs.Laws.Row.{overwritten-wide}
 use Rattle.model.specs.Query as Model
-use Rattle.side_parts.specs.Lent.{RowsHeld, rowSides, Sides}
-use Rattle.end_codes.specs.Codes.{leftLast, rightLast}
-use Rattle.key_ends.specs.Ends.{CodeOf, left-last, right-last}
+use Rattle.model.specs.Laws.Booleans.{both-of}
+use Rattle.side_parts.specs.Lent.{RowsHeld, BothRowsHeld, rowSides, Sides}
+use Rattle.end_codes.specs.Codes.{leftFirst, leftLast, rightFirst, rightLast}
+use Rattle.key_places.specs.Two.{areTwo, bothTwo, keysBetween, two-order, two-between}
+use Rattle.key_ends.specs.Ends.{CodeOf, left-last, right-last, left-ends, right-ends}
 use Rattle.plan.specs.Keys.{firstOf, lastOf, KeyEnds}
 use Rattle.plan.specs.Merging.{RowMerge, row, failedAt, mergeGroup, mergeLast, clash}
 use Rattle.side_parts.specs.Sides.{rowAt}
@@ -27,14 +27,13 @@ use Rattle.merge.specs.Merging.{mergedIf, mergeable, mergeable-merges}
 use Rattle.answers.specs.Plans.{duplicate}
 use Rattle.side_parts.specs.SideLaws.{row-in, row-width}
 use Rattle.merging.specs.Groups.{mergesTo, MergedGroup}
-use Rattle.plan.specs.Laws.Ends.{first-last, last-most, ends-within, several-stand}
+use Rattle.plan.specs.Laws.Ends.{first-last, last-is, last-within, ends-within, several-stand}
 use Rattle.overwriting.specs.Several.{single-row, none-among, several, several-merged}
+use Rattle.pair_series.specs.pair_rows.Rows.{PairCode}
+use Rattle.pair_series.proofs.Two.{TwoOn, two-left, two-right}
 use Rattle.pair_plan.specs.declared.pair_checks.Checked.{Checked}
 use Rattle.pair_plan.specs.declared.pair_checks.Checked.the-variants as C
-use Rattle.pair_plan.specs.tried_merges.Tries.{twoAt}
-use Rattle.pair_plan.proofs.tried_merges.Tries as Tries
-use Rattle.pair_plan.proofs.tried_merges.Tries.{two-order}
-use Rattle.pair_plan.specs.pair_checks.Checks.{failureOf, failedIn, clashIn, clashAt}
+use Rattle.pair_plan.specs.pair_checks.Checks.{failureOf, failedIn, rowsMerge, twosMerge, clashIn, clashAt}
 
 -- what the code tells of merges that are to come to `want`
 
@@ -44,6 +43,17 @@ same-failure (FailedAt i) d = refl
 
 merges-told : (want : RowMerge) (p : ℕ) (d : List ℕ) (r : Merges) → MergedGroup want p d r → failedIn r ≡ failureOf want
 merges-told want p d r m = same-failure r d ∙ ap failureOf (m .answer)
+
+-- `row_merges`
+
+pub rows-alike : (p : ℕ) (rows : List ℕ) (i j : ℕ) → i * p + p ≤ length rows → j * p + p ≤ length rows
+    → (s d : List ℕ) → d ≡ rowAt p rows i → s ≡ rowAt p rows j → length s ≡ length d
+rows-alike p rows i j hi hj s d hd hs = row-width p rows s j hj hs ∙ sym (row-width p rows d i hi hd)
+
+pub rows-told : (allowance p : ℕ) (rows : List ℕ) (i j : ℕ) (s d : List ℕ) → d ≡ rowAt p rows i → s ≡ rowAt p rows j
+    → (r : Bool) → mergedIf r d s ≡ merged allowance d s
+    → mergedIf r (rowAt p rows i) (rowAt p rows j) ≡ merged allowance (rowAt p rows i) (rowAt p rows j)
+rows-told allowance p rows i j s d hd hs r h = rw (hd, hs) at h
 
 -- `ensure_merges`
 
@@ -70,24 +80,14 @@ module _ (allowance p : ℕ) (rows keys : List ℕ) (k first last : ℕ) (held :
     pub first-fails : m ≡ false → some first ≡ failureOf (mergeLast allowance p rows keys k)
     first-fails f = rw (several allowance p rows k keys first last e h, ← hm, f)
 
-    pub two-merge : m ≡ true → (r : Bool)
-        → r ≡ ltb (firstOf (take (last - (first + 1)) (drop (first + 1) keys)) k) (last - (first + 1)) → r ≡ false
+    pub two-fine : m ≡ true → (r : Bool) → r ≡ areTwo keys k first last → r ≡ true
         → none ≡ failureOf (mergeLast allowance p rows keys k)
-    two-merge t r hr f = rw (
+    two-fine t r hr u = rw (
       several-merged allowance p rows k keys first last e h (rw t at hm),
-      none-among allowance p rows k between (suc first)
-          (overwritten (rowAt p rows last) (rowAt p rows first)) none-between,
+      none-among allowance p rows k (keysBetween keys first last) (suc first)
+          (overwritten (rowAt p rows last) (rowAt p rows first))
+          (two-between keys k first last (sym hr ∙ u) last-inside),
     )
-      where
-        between : List ℕ
-        between = take (last - suc first) (drop (suc first) keys)
-
-        long : length between ≡ last - suc first
-        long = length-take-le (last - suc first) (drop (suc first) keys)
-            (omega (arith, last-in, length-drop (suc first) keys))
-
-        none-between : length between ≤ firstOf between k
-        none-between = rw long (ltb-false (firstOf between k) (last - suc first) (sym (rw (← add-one first) hr) ∙ f))
 
   -- the first series put over the last, at the start of a work row
 
@@ -149,6 +149,9 @@ single-fine allowance p rows keys k first last e le =
 
 -- `check_pair`
 
+pub room-kept : (p m n : ℕ) → p ≤ m → n ≡ m → p ≤ n
+room-kept p m n h e = omega (arith, h, e)
+
 clash-of : (side : Model.Side) (kept : ℕ) (u : RowMerge) → none ≡ failureOf u → none ≡ clash side kept u
 clash-of side kept (row d) h = refl
 clash-of side kept (failedAt i d) h = absurd (let z : _≡_ {A = ℕ} 0 1 = cc in omega arith)
@@ -184,61 +187,55 @@ module _ (allowance p : ℕ) (left lkeys right rkeys : List ℕ) (k : ℕ) (a : 
 
 -- `two_merge`
 
-pub ends-inside : (keys : List ℕ) (k first last : ℕ) → KeyEnds keys k first last → last ≤ length keys
-ends-inside keys k first last e = omega (arith, e .last-place, last-most k keys)
+module _ (allowance : ℕ) (s : Sides) (c : ℕ) (r : Bool) (hr : r ≡ bothTwo (s .left .keys) (s .right .keys) c) where
+  pub no-twos : r ≡ false → false ≡ twosMerge allowance s c
+  unfolding twosMerge
+  no-twos f = rw (← hr, f)
 
--- two series of a key on one side
-pub record Two (p : ℕ) (rows keys : List ℕ) (k first last : ℕ) : Type 0 where
-  pub held : RowsHeld p rows keys
-  pub ends : KeyEnds keys k first last
-  pub two : twoAt keys k first last ≡ true
+  pub twos-told : r ≡ true → (i j n m : ℕ) → i ≡ leftLast c → j ≡ leftFirst c → n ≡ rightLast c → m ≡ rightFirst c
+      → (x y v w : List ℕ) → x ≡ rowAt (s .shape .points) (s .left .rows) i
+      → y ≡ rowAt (s .shape .points) (s .left .rows) j → v ≡ rowAt (s .shape .points) (s .right .rows) n
+      → w ≡ rowAt (s .shape .points) (s .right .rows) m → (b : Bool)
+      → b ≡ (mergeable allowance x y && mergeable allowance v w) → b ≡ twosMerge allowance s c
+  unfolding twosMerge
+  twos-told t i j n m hi hj hn hm x y v w hx hy hv hw b hb =
+      rw (← hr, t, ← hi, ← hj, ← hn, ← hm, ← hx, ← hy, ← hv, ← hw) hb
 
-pub told-two : (p : ℕ) (rows keys : List ℕ) (k first last : ℕ) → RowsHeld p rows keys → KeyEnds keys k first last
-    → (r : Bool) → r ≡ twoAt keys k first last → r ≡ true → Two p rows keys k first last
-told-two p rows keys k first last held ends r h t = record { held = held; ends = ends; two = sym h ∙ t }
+-- `try_pair`
 
-module _ (p : ℕ) (rows keys : List ℕ) (k first last : ℕ) (b : Two p rows keys k first last) where
-  pub last-of-two : last * p + p ≤ length rows
-  last-of-two = last-there 0 p rows keys k first last (b .held) (b .ends) (two-order keys k first last (b .two))
+side-fine : (allowance p : ℕ) (rows keys : List ℕ) (k first last : ℕ) → KeyEnds keys k first last
+    → TwoOn p rows keys first last → rowsMerge allowance p rows first last ≡ true
+    → none ≡ failureOf (mergeLast allowance p rows keys k)
+side-fine allowance p rows keys k first last e b m =
+    let order : first < last = two-order keys (getD keys last 0) first last (b .two) in
+    let stands : firstOf keys k < length keys = rw (← e .first-place) (several-stand keys k first last e order) in
+    let key : getD keys last 0 ≡ k = rw (e .last-place) (last-is k keys stands) in
+    two-fine allowance p rows keys k first last (b .held) e order true
+    (sym (mergeable-merges allowance (rowAt p rows last) (rowAt p rows first) m)) refl
+    (areTwo keys k first last) refl (rw key at (b .two))
 
-  pub first-of-two : first * p + p ≤ length rows
-  first-of-two = first-there 0 p rows keys k first last (b .held) (b .ends) (two-order keys k first last (b .two))
+module _ (s : Sides) (k c : ℕ) (hc : CodeOf (s .left .keys) (s .right .keys) k c)
+    (hl : firstOf (s .left .keys) k < length (s .left .keys))
+    (hr : firstOf (s .right .keys) k < length (s .right .keys)) where
+  -- the places of a key's code stand on both sides
+  pub code-in : PairCode s c
+  code-in = record {
+    left = rw (left-last (s .left .keys) (s .right .keys) k c hc) (last-within k (s .left .keys) hl);
+    right = rw (right-last (s .left .keys) (s .right .keys) k c hc) (last-within k (s .right .keys) hr);
+  }
 
-  pub last-of-two-wide : (x : List ℕ) → x ≡ rowAt p rows last → length x ≡ p
-  last-of-two-wide x hx = row-width p rows x last last-of-two hx
-
-  pub first-of-two-wide : (y : List ℕ) → y ≡ rowAt p rows first → length y ≡ p
-  first-of-two-wide y hy = row-width p rows y first first-of-two hy
-
-  two-fine : (allowance : ℕ) (x y : List ℕ) → x ≡ rowAt p rows last → y ≡ rowAt p rows first
-      → mergeable allowance x y ≡ true → none ≡ failureOf (mergeLast allowance p rows keys k)
-  two-fine allowance x y hx hy m =
-      two-merge allowance p rows keys k first last (b .held) (b .ends) (two-order keys k first last (b .two)) true
-      (sym (mergeable-merges allowance (rowAt p rows last) (rowAt p rows first) (rw (hx, hy) at m))) refl false
-      (sym (Tries.none-among keys k first last (b .two))) refl
-
-one-holds : (a b : Bool) → (a && b) ≡ true → a ≡ true
-one-holds true b h = refl
-one-holds false b h = cc
-
-other-holds : (a b : Bool) → (a && b) ≡ true → b ≡ true
-other-holds true b h = h
-other-holds false b h = cc
-
-pub both-fine : (p : ℕ) (left lkeys right rkeys : List ℕ) (k lf ll rf rl : ℕ) → Two p left lkeys k lf ll
-    → Two p right rkeys k rf rl → (allowance : ℕ) (x y v w : List ℕ) → x ≡ rowAt p left ll → y ≡ rowAt p left lf
-    → v ≡ rowAt p right rl → w ≡ rowAt p right rf → (r : Bool)
-    → r ≡ (mergeable allowance x y && mergeable allowance v w)
-    → r ≡ true → none ≡ pairClash allowance (rowSides p lkeys left rkeys right) k
-both-fine p left lkeys right rkeys k lf ll rf rl l r allowance x y v w hx hy hv hw b told t =
-    let m : (mergeable allowance x y && mergeable allowance v w) ≡ true = sym told ∙ t in
-    check-fine allowance p left lkeys right rkeys k Done
-    (two-fine p left lkeys k lf ll l allowance x y hx hy
-    (one-holds (mergeable allowance x y) (mergeable allowance v w) m))
-    refl Done
-    (two-fine p right rkeys k rf rl r allowance v w hv hw
-    (other-holds (mergeable allowance x y) (mergeable allowance v w) m))
-    refl
+  -- two series on each side that merge do not clash
+  pub twos-fine : BothRowsHeld s → (allowance : ℕ) (r : Bool) → r ≡ twosMerge allowance s c → r ≡ true
+      → none ≡ pairClash allowance s k
+  unfolding twosMerge
+  twos-fine held allowance r told t =
+      let tests = both-of _ _ (sym told ∙ t) in
+      let merge = both-of _ _ (tests .1) in
+      check-fine allowance (s .shape .points) (s .left .rows) (s .left .keys) (s .right .rows) (s .right .keys) k Done
+      (side-fine allowance _ _ _ k _ _ (left-ends _ _ k c hc _ _ refl refl) (two-left s held c code-in (tests .0))
+      (merge .0)) refl Done
+      (side-fine allowance _ _ _ k _ _ (right-ends _ _ k c hc _ _ refl refl) (two-right s held c code-in (tests .0))
+      (merge .1)) refl
 
 -- `check_at`
 

@@ -1,12 +1,17 @@
 -- What the merges of one-to-one come to, as the code tells it. Assumes nothing.
 use Prim.Native.Nat.{ℕ}
-use mathlib.Core.Bool.{cond}
+use mathlib.Core.Bool.{Bool, cond, _&&_}
 use mathlib.Core.Option.{Option, none, some}
+use mathlib.Core.List.{List}
 use Rattle.model.specs.Query as Model
 use Rattle.semantics.specs.Events.{Duplicate}
 use Rattle.plan.specs.Merging.{RowMerge, row, failedAt}
 use Rattle.plan.specs.Pairs.{isPair, pairClash}
+use Rattle.side_parts.specs.Sides.{rowAt}
 use Rattle.side_parts.specs.Lent.{Sides}
+use Rattle.end_codes.specs.Codes.{leftFirst, leftLast, rightFirst, rightLast}
+use Rattle.key_places.specs.Two.{bothTwo}
+use Rattle.merge.specs.Merging.{mergeable}
 use Rattle.merging.specs.declared.Merges.{Merges}
 use Rattle.merging.specs.declared.Merges.the-variants.{Done, FailedAt}
 use Rattle.answers.specs.Plans.{duplicate}
@@ -22,6 +27,17 @@ failureOf (failedAt i d) = some i
 abbrev pub failedIn : Merges → Option ℕ
 failedIn Done = none
 failedIn (FailedAt i) = some i
+
+-- whether the row `first` may be merged into the row `last`
+abbrev pub rowsMerge : ℕ → ℕ → List ℕ → ℕ → ℕ → Bool
+rowsMerge allowance p rows first last = mergeable allowance (rowAt p rows last) (rowAt p rows first)
+
+-- whether a code has exactly two series on each side, and they merge
+unfoldable pub twosMerge : ℕ → Sides → ℕ → Bool
+twosMerge allowance s c =
+    bothTwo (s .left .keys) (s .right .keys) c
+    && (rowsMerge allowance (s .shape .points) (s .left .rows) (leftFirst c) (leftLast c)
+    && rowsMerge allowance (s .shape .points) (s .right .rows) (rightFirst c) (rightLast c))
 
 -- 01: fields are the input places of the series kept and the one that failed to merge
 abbrev pub clashIn : Checked → Option Duplicate

@@ -9,7 +9,7 @@ use borrow.Rule.Slice.PartMut.{putMid}
 use Rattle.model.specs.Row.{zipWith, overwritten}
 use Rattle.model.specs.Laws.Row.{overwritten-wide, zip-wide}
 use Rattle.answers.specs.Outcomes.{startingWith}
-use Rattle.pair_series.specs.pair_parts.Parts.{PartEnd}
+use Rattle.pair_series.specs.pair_parts.Parts.{PartEnd, PartsFit}
 
 -- a part of one row over another
 
@@ -130,8 +130,8 @@ module _ (from p to : ℕ) (e : PartEnd from p to) where
   pub part-order : from ≤ to
   part-order = omega (arith, e .after)
 
-  pub part-inside : (x : List ℕ) → length x ≡ p → to ≤ length x
-  part-inside x h = omega (arith, e .within, h)
+  pub part-inside : (n : ℕ) → n ≡ p → to ≤ n
+  part-inside n h = omega (arith, e .within, h)
 
   part-wide : (x : List ℕ) → to ≤ length x → length (take (to - from) (drop from x)) ≡ to - from
   part-wide x h = length-take-le (to - from) (drop from x) (omega (arith, length-drop from x, e .after, h))
@@ -148,25 +148,24 @@ module _ (f : ℕ → ℕ → ℕ) (ld ls rd rs lv₀ rv₀ out₀ : List ℕ) w
   parts-start = record { within = omega arith; left = refl; right = refl; row = refl }
 
   module _ (lv rv out : List ℕ) (c : ℕ) (k : Parted f ld ls rd rs lv₀ rv₀ out₀ lv rv out c)
-      (hld : length ld ≡ length out₀) (hls : length ls ≡ length out₀) (hrd : length rd ≡ length out₀)
-      (hrs : length rs ≡ length out₀) (hlv : length out₀ ≤ length lv₀) (hrv : length out₀ ≤ length rv₀) where
+      (fit : PartsFit ld ls rd rs lv₀ rv₀ out₀) where
     left-wide : length (overwritten ld ls) ≡ length out₀
-    left-wide = overwritten-wide ld ls ∙ hld
+    left-wide = overwritten-wide ld ls ∙ fit .left-dst
 
     right-wide : length (overwritten rd rs) ≡ length out₀
-    right-wide = overwritten-wide rd rs ∙ hrd
+    right-wide = overwritten-wide rd rs ∙ fit .right-dst
 
     row-wide : length (zipWith f (overwritten ld ls) (overwritten rd rs)) ≡ length out₀
     row-wide = zip-wide f (length out₀) (overwritten ld ls) (overwritten rd rs) left-wide right-wide
 
     pub left-long : length lv ≡ length lv₀
     left-long =
-        filled-long (overwritten ld ls) lv₀ lv c (omega (arith, left-wide, hlv))
+        filled-long (overwritten ld ls) lv₀ lv c (omega (arith, left-wide, fit .left-room))
         (omega (arith, left-wide, k .within)) (k .left)
 
     pub right-long : length rv ≡ length rv₀
     right-long =
-        filled-long (overwritten rd rs) rv₀ rv c (omega (arith, right-wide, hrv))
+        filled-long (overwritten rd rs) rv₀ rv c (omega (arith, right-wide, fit .right-room))
         (omega (arith, right-wide, k .within)) (k .right)
 
     pub row-long : length out ≡ length out₀
@@ -176,10 +175,10 @@ module _ (f : ℕ → ℕ → ℕ) (ld ls rd rs lv₀ rv₀ out₀ : List ℕ) w
 
     module _ (e : ℕ) (he : PartEnd c (length out₀) e) where
       pub left-inside : e ≤ length lv
-      left-inside = omega (arith, left-long, hlv, he .within)
+      left-inside = omega (arith, left-long, fit .left-room, he .within)
 
       pub right-inside : e ≤ length rv
-      right-inside = omega (arith, right-long, hrv, he .within)
+      right-inside = omega (arith, right-long, fit .right-room, he .within)
 
       pub row-inside : e ≤ length out
       row-inside = omega (arith, row-long, he .within)
@@ -188,7 +187,7 @@ module _ (f : ℕ → ℕ → ℕ) (ld ls rd rs lv₀ rv₀ out₀ : List ℕ) w
 
       pub given-wide : (x : List ℕ) → length x ≡ length out₀
           → length (take (e - c) (drop c x)) ≡ length (take (e - c) (drop c out))
-      given-wide x h = part-alike c (length out₀) e he x out (part-inside c (length out₀) e he x h) row-inside
+      given-wide x h = part-alike c (length out₀) e he x out (part-inside c (length out₀) e he (length x) h) row-inside
 
       pub left-alike : length (take (e - c) (drop c lv)) ≡ length (take (e - c) (drop c out))
       left-alike = part-alike c (length out₀) e he lv out left-inside row-inside

@@ -1,13 +1,12 @@
 -- The answer rows of one-to-one: the two sides of a code, each as one row, under the operator. Assumes nothing.
-use Prim.Native.Nat.{ℕ, suc, _-_, _<_}
-use mathlib.Core.Bool.{Bool, cond, _&&_}
+use Prim.Native.Nat.{ℕ, _<_}
+use mathlib.Core.Bool.{Bool, cond}
 use mathlib.Core.List.{List}
-use lib.Dec.{leb, ltb}
-use lib.ListN.{length, getD, take, drop}
+use lib.Dec.{leb}
+use lib.ListN.{length, take}
 use Rattle.operator.specs.declared.Operator.{Operator}
 use Rattle.model.specs.Reading.{scalarOp}
 use Rattle.model.specs.Row.{zipWith}
-use Rattle.plan.specs.Keys.{firstOf}
 use Rattle.side_parts.specs.Sides.{rowAt}
 use Rattle.side_parts.specs.Lent.{Sides}
 use Rattle.overwriting.specs.Overwriting.{rowOfSeveral}
@@ -17,12 +16,6 @@ use Rattle.end_codes.specs.Codes.{leftFirst, leftLast, rightFirst, rightLast}
 -- the row of a side by two places: that of the last, or of several the first and those between over the last
 abbrev pub codedSide : ℕ → List ℕ → List ℕ → ℕ → ℕ → List ℕ
 codedSide p rows keys first last = cond (leb last first) (rowAt p rows last) (rowOfSeveral p rows keys first last)
-
--- whether two places are all that stand from the first to the last with the key of the last
-unfoldable pub ofTwo : List ℕ → ℕ → ℕ → Bool
-ofTwo keys first last =
-    ltb first last
-    && leb (last - suc first) (firstOf (take (last - suc first) (drop (suc first) keys)) (getD keys last 0))
 
 -- the answer row of a code
 abbrev pub codedPairRow : Operator → Bool → Sides → ℕ → List ℕ
@@ -43,6 +36,10 @@ leftWork s c work = sideWork (s .shape .points) (s .left .rows) (s .left .keys) 
 
 abbrev pub rightWork : Sides → ℕ → List ℕ → List ℕ
 rightWork s c work = sideWork (s .shape .points) (s .right .rows) (s .right .keys) (rightFirst c) (rightLast c) work
+
+-- the row of a side by two places: that of the last, or of several what a work row begins with
+abbrev pub readSide : ℕ → List ℕ → ℕ → ℕ → List ℕ → List ℕ
+readSide p rows first last work = cond (leb last first) (rowAt p rows last) (take p work)
 
 -- a code whose places stand on both sides
 pub record PairCode (s : Sides) (c : ℕ) : Type 0 where

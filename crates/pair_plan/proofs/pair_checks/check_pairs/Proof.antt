@@ -1,4 +1,5 @@
 -- `check_pairs` meets its contract. Assumes nothing.
+use mathlib.Core.Path.{_∙_}
 use lib.ListN.{length}
 use Prim.Native.Nat.{_-_}
 use Rattle.side_parts.specs.Lent.{lent, unlabelled}
@@ -23,7 +24,10 @@ check-pairs-spec =
     μ-loop
     (λ c. search needs)
     (λ c. search check-starts)
-    (λ c κs. (search needs, (search needs, (search needs, search check-room))))
+    (λ c κs.
+    let loop = c .before .before in
+    let pre = loop .before .before .before .before .pre in
+    (pre .0, (pre .1 .0, (c .before .loop-test .taken, check-room _ _ _ _ _ (loop .loop .inv) _ (pre .1 .1)))))
     (λ c. search needs)
     (λ c. omega arith)
     (λ c. omega arith)
@@ -34,9 +38,23 @@ check-pairs-spec =
     (c .enum-told .given .1) _ (chk .check-at .ensures .1))
     (λ c. search needs)
     (λ c. search needs)
-    (λ c. (search check-failed-left, search needs))
+    (λ c.
+    let chk = c .before .before .before .before .before in
+    let test = chk .before .before in
+    let told = chk .check-at .ensures in
+    let inv = test .before .loop .inv in (
+      check-failed-left _ _ _ _ _ inv (test .loop-test .taken) _ (told .0) _ _ (c .before .kept .given .1),
+      told .1 ∙ inv .long,
+    ))
     (λ c. search needs)
     (λ c. search needs)
-    (λ c. (search check-failed-right, search needs))
+    (λ c.
+    let chk = c .before .before .before .before .before in
+    let test = chk .before .before in
+    let told = chk .check-at .ensures in
+    let inv = test .before .loop .inv in (
+      check-failed-right _ _ _ _ _ inv (test .loop-test .taken) _ (told .0) _ _ (c .before .kept2 .given .1),
+      told .1 ∙ inv .long,
+    ))
     (λ c. search needs)
-    (λ c. (search check-ends, search needs)))
+    (λ c. (check-ends _ _ _ _ _ (c .before .loop .inv) (c .loop-test .left), c .before .loop .inv .long)))

@@ -1,8 +1,8 @@
 -- `row_merges` meets its contract. Assumes nothing.
 use borrow.Author.Needs.{needs}
-use Rattle.pair_plan.proofs.tried_merges.Tries.{rows-alike, rows-told}
-use Rattle.pair_plan.proofs.tried_merges.row_merges.Statement.{statement}
-use Rattle.pair_plan.proofs.tried_merges.row_merges.Tie as tie
+use Rattle.pair_plan.proofs.pair_checks.Checks.{rows-alike, rows-told}
+use Rattle.pair_plan.proofs.pair_checks.row_merges.Statement.{statement}
+use Rattle.pair_plan.proofs.pair_checks.row_merges.Tie as tie
 
 pub row-merges-spec : {M : Type 1} → statement M
 row-merges-spec =
