@@ -23,14 +23,33 @@ VECOP = os.environ.get('VECOP', os.path.join(ROOT, 'target', 'bin', 'vecop'))
 
 class Queries(unittest.TestCase):
     def test_operators_are_numbered_in_order(self):
-        self.assertEqual(quote.encode_query('+'), bytes([0, 0, 0, 0, 0, 0]))
-        self.assertEqual(quote.encode_query('unless'), bytes([18, 0, 0, 0, 0, 0]))
-        self.assertEqual(quote.encode_query('ifnot'), bytes([13, 0, 0, 0, 0, 0]))
+        self.assertEqual(quote.encode_query('+'), bytes([0, 0, 0, 0, 0, 0, 2]))
+        self.assertEqual(quote.encode_query('unless'), bytes([18, 0, 0, 0, 0, 0, 2]))
+        self.assertEqual(quote.encode_query('ifnot'), bytes([13, 0, 0, 0, 0, 0, 2]))
 
     def test_modifiers(self):
-        self.assertEqual(quote.encode_query('/ on(press) group_left(form)'), b'\x04\x01\x01\x00\x01\x05press\x01\x04form')
-        self.assertEqual(quote.encode_query('== bool ignoring(a, b)'), b'\x05\x02\x00\x02\x02\x01a\x01b\x00')
-        self.assertEqual(quote.encode_query('* group_right(*) keep_metric_names'), b'\x07\x00\x02\x01\x00\x01\x01*')
+        self.assertEqual(quote.encode_query('/ on(press) group_left(form)'), b'\x04\x01\x01\x00\x01\x05press\x01\x04form\x02')
+        self.assertEqual(quote.encode_query('== bool ignoring(a, b)'), b'\x05\x02\x00\x02\x02\x01a\x01b\x00\x02')
+        self.assertEqual(quote.encode_query('* group_right(*) keep_metric_names'), b'\x07\x00\x02\x01\x00\x01\x01*\x02')
+
+    def test_overlap(self):
+        for allowed in range(9):
+            self.assertEqual(quote.encode_query(f'+ overlap({allowed})'), bytes([0, 0, 0, 0, 0, 0, allowed]))
+        whole = b'\x05\x01\x01\x02\x01\x07overlap\x00\x04'
+        for text in ['overlap(4) bool on(overlap) group_left', 'bool overlap ( 4 ) on(overlap) group_left()',
+                     'bool on(overlap) overlap(4) group_left', 'bool on(overlap) group_left overlap(4)']:
+            with self.subTest(text):
+                self.assertEqual(quote.encode_query('== ' + text), whole)
+
+    def test_mistakes_of_overlap(self):
+        for text in ['9', '10', '255', '1.5', '-1', 'four', '', '2, 3', '0 4', '(4', '.', '1e0', '9' * 5000]:
+            with self.subTest(text[:9]), self.assertRaisesRegex(quote.Mistake, '^query: overlap takes a whole number from 0 to 8, not '):
+                quote.encode_query(f'+ overlap({text})')
+        for text, what in [('overlap', r'\( is missing after overlap'), ('overlap 4', r'\( is missing after overlap'),
+                           ('overlap on(a)', r'\( is missing after overlap'), ('overlap(4', r'\) is missing after overlap'),
+                           ('overlap(4) overlap(4)', "did not expect 'overlap'"), ('4', "did not expect '4'")]:
+            with self.subTest(text), self.assertRaisesRegex(quote.Mistake, f'^query: {what}'):
+                quote.encode_query('+ ' + text)
 
     def test_mistakes(self):
         for text in ['', 'plus', '+ on', '+ on(a', '+ on(a b)', '+ on(a) on(b)', '+ group_left(a) group_right(a)', '+ $']:
@@ -198,6 +217,20 @@ class Answers(unittest.TestCase):
         self.assertIn('left series 1, a{f="1"} cannot be merged into left series 2, a{f="2"}', quote.refusal(7, 1, 0, sides))
         self.assertIn('different numbers of points', quote.refusal(6, 0, 0, sides))
 
+    def test_refusals_say_what_overlaps(self):
+        def told(points, allowed):
+            sides = [quote.read_vector('l', 'a 1\n'), quote.read_vector('r', 2 * ('b' + ' 1' * points + '\n'))]
+            return quote.refusal(8, 0, 1, sides, allowed)
+        key = 'right series 2, b{} cannot be merged into right series 1, b{}: they have the same key, and '
+        for allowed in 0, 1, 2, 4:
+            self.assertEqual(told(3, allowed), f'{key}its readings overlap those merged so far at more points than the {allowed} allowed; '
+                                               'overlap(N) in the query allows N, up to 8')
+        self.assertTrue(told(9, 8).endswith('at more points than the 8 allowed'))
+        for points in 0, 1, 2:
+            for allowed in 0, 2, 8:
+                self.assertEqual(told(points, allowed), key + 'series of two points or fewer are never merged')
+        self.assertEqual(quote.refusal(13, 0, 0, []), 'the query allows more than 8 overlapping points')
+
     def test_refusals_name_grids(self):
         hourly, quarters = 'from 2026-03-02T06:00Z every 1h\na 1\n', 'from 2026-03-02T06:00Z every 15m\na 1\n'
         text = quote.refusal(12, 0, 0, [quote.read_vector('l.txt', hourly), quote.read_vector('r.txt', quarters)])
@@ -226,15 +259,18 @@ class Runs(unittest.TestCase):
     def test_the_scope_document_s_example(self):
         self.assertEqual(self.quoted('/', 'fed{press="A"} 10 - 6\n', 'waste{press="A"} 2 1 3\n'), (0, '{press="A"}  5  -  2\n', ''))
 
-    def test_the_readme_s_first_quote(self):
+    def test_the_readme_s_quotes(self):
         with open(os.path.join(ROOT, 'README.md'), encoding='utf-8') as file:
-            command, printed = re.findall(r'(?:^    .*\n)+', file.read(), re.M)[:2]
-        query, *words = shlex.split(command.partition('./quote')[2])
-        paths = [os.path.join(ROOT, word) if word.endswith('.txt') else word for word in words]
-        out = io.StringIO()
-        with redirect_stdout(out):
-            self.assertEqual(quote.main([query, *paths, '--vecop', VECOP]), 0)
-        self.assertEqual(out.getvalue(), re.sub('^    ', '', printed, flags=re.M))
+            blocks = re.findall(r'(?:^    .*\n)+', file.read(), re.M)
+        quotes = [(command, printed) for command, printed in zip(blocks, blocks[1:]) if './quote' in command]
+        self.assertEqual(len(quotes), 2)
+        for command, printed in quotes:
+            query, *words = shlex.split(command.partition('./quote')[2])
+            paths = [os.path.join(ROOT, word) if word.endswith('.txt') else word for word in words]
+            out = io.StringIO()
+            with self.subTest(command.strip()), redirect_stdout(out):
+                self.assertEqual(quote.main([query, *paths, '--vecop', VECOP]), 0)
+                self.assertEqual(out.getvalue(), re.sub('^    ', '', printed, flags=re.M))
 
     def test_every_form_gets_the_shared_rate(self):
         left = ''.join(f'fed{{press="A",form="{i}"}} {i}\n' for i in range(1, 7))
@@ -245,6 +281,18 @@ class Runs(unittest.TestCase):
         self.assertEqual(self.quoted('+', 'a 1 2\n', 'a 1\n')[:2], (1, 'refused: the two sides have different numbers of points\n'))
         self.assertEqual(self.quoted('^', 'a 1\n', 'a 1\n')[:2], (1, 'refused: this operator is not carried\n'))
         self.assertIn('cannot be merged', self.quoted('+ on()', 'a{f="1"} 1 1 1\na{f="2"} 1 1 1\n', 'b 1 1 1\n')[1])
+
+    def test_overlap(self):
+        left, right = 'a{f="1"} 1 1 1 1 -\na{f="2"} 2 2 2 2 2\n', 'b 0 0 0 0 0\n'
+        self.assertEqual(self.quoted('+ on() overlap(4)', left, right), (0, '{}  1  1  1  1  2\n', ''))
+        self.assertEqual(self.quoted('+ overlap(4) on() group_right()', left, right), (0, '{}  2  2  2  2  2\n', ''))
+        for query, allowed in ('+ on() overlap(3)', 3), ('+ on()', 2), ('+ on() overlap(0)', 0):
+            self.assertIn(f'at more points than the {allowed} allowed', self.quoted(query, left, right)[1])
+        self.assertIn('series of two points or fewer are never merged', self.quoted('+ on() overlap(8)', 'a 1 -\nb - 1\n', 'c 1 1\n')[1])
+        with tempfile.TemporaryDirectory() as folder, redirect_stderr(io.StringIO()) as errors:
+            nothing = os.path.join(folder, 'none')
+            self.assertEqual(quote.main(['+ overlap(9)', nothing, nothing, '--vecop', nothing]), 2)
+        self.assertIn('a whole number from 0 to 8', errors.getvalue())
 
     def test_times(self):
         header = 'from 2026-03-02T22:00Z every 1h\n'

@@ -2,7 +2,7 @@
 
 One place for all that writes them in Python: the generators of tests/expected, `quote` and oracle/promtool.py. Nothing is checked
 here but that a number fits its bytes, so that what a call refuses can be encoded too. Integers are little-endian. A vector whose grid is
-not told has a reading an hour, from 0 on."""
+not told has a reading an hour, from 0 on; a query whose allowance is not told has that of 01's examples."""
 import struct
 
 METRIC_GROUP = b'__name__'
@@ -15,6 +15,7 @@ ONE_TO_ONE, GROUP_LEFT, GROUP_RIGHT, MANY_TO_MANY = range(4)
 KEEP_NAMES, BOOL = 1, 2
 START, STEP = 0, 3600000
 MAX_START, MAX_STEP = 2**52, 86400000
+ALLOWANCE, MAX_ALLOWANCE = 2, 8
 
 
 def field(content):
@@ -27,8 +28,9 @@ def label_list(labels):
     return bytes([len(labels)]) + b''.join(map(field, labels))
 
 
-def query(operator, matching=ALL, join=ONE_TO_ONE, flags=0, matching_list=(), join_list=()):
-    return bytes([operator, matching, join, flags]) + label_list(matching_list) + label_list(join_list)
+def query(operator, matching=ALL, join=ONE_TO_ONE, flags=0, matching_list=(), join_list=(), allowance=ALLOWANCE):
+    lists = label_list(matching_list) + label_list(join_list)
+    return bytes([operator, matching, join, flags]) + lists + bytes([allowance])
 
 
 def tag_fields(tags):

@@ -14,7 +14,7 @@ extern "C" {
 
 /* What a call reports, by index into its result. */
 enum {
-    NOSINGCATNIP_NUMBER = 0,      /* 0 for an answer, else the refusal's number, 1 to 12 */
+    NOSINGCATNIP_NUMBER = 0,      /* 0 for an answer, else the refusal's number, 1 to 13 */
     NOSINGCATNIP_FIELD_1 = 1,     /* the refusal's first field; 0 for an answer */
     NOSINGCATNIP_FIELD_2 = 2,     /* the refusal's second field; 0 for an answer */
     NOSINGCATNIP_SERIES = 3,      /* the answer's series; 0 for a refusal */
@@ -31,6 +31,9 @@ enum {
  * length of the label array, two bytes each; start in milliseconds, eight bytes, 0 to 2^52; step in milliseconds, four bytes, 1 to
  * 86,400,000. Then it has the label array. Readings are the bits of binary64 numbers, row by row; any NaN is a missing reading.
  * Reading i of a row is of the time start + i * step; both sides have the same start and step, and so has the answer.
+ *
+ * The query's last byte is its allowance, 0 to 8: at how many places a row that is merged may overlap the row merged so far. One
+ * above 8 is refused with 13.
  *
  * An answer's label records are written at the start of out_labels and its rows at the start of out; what lies behind them
  * stays. A refusal changes neither part. All eight numbers of result are written at each call.

@@ -2,7 +2,7 @@
 import struct
 
 import wire
-from expected import read
+from expected import allowances, read
 from wire import ADD, AND, ATAN2, DIV, GROUP_LEFT, GROUP_RIGHT, KEEP_NAMES, MUL, ON, OR, POW, SIZES, UNLESS, number, part, query
 from wire import MAX_START, MAX_STEP, START, STEP
 from wire import MISSING as N
@@ -119,6 +119,20 @@ def query_faults():
     yield 'atan2', query(ATAN2), ONE, ONE, ROOM, refused(1)
     yield 'a power', query(POW), ONE, ONE, ROOM, refused(1)
     yield 'a byte behind the query', PLUS + b'\0', ONE, ONE, ROOM, refused(2)
+    yield 'no allowance', PLUS[:-1], ONE, ONE, ROOM, refused(2)
+    for allowance in 9, 255:
+        above = query(ADD, allowance=allowance)
+        for number, left, _ in faults():
+            yield f'13 before {number}, {allowance} allowed', above, left, ONE, ROOM, refused(13)
+        yield f'13 before 6, {allowance} allowed', above, ONE, vector(2), ROOM, refused(13)
+        yield f'13 before 7, {allowance} allowed', above, TWICE, ONE, ROOM, refused(13)
+        yield f'13 before 10, {allowance} allowed', above, ONE, ONE, (0, 0), refused(13)
+        yield f'13 of a set rule, {allowance} allowed', query(OR, allowance=allowance), ONE, ONE, ROOM, refused(13)
+        yield f'13 of a join, {allowance} allowed', query(ADD, ON, GROUP_LEFT, 0, [b'a'], [b'b'], allowance), ONE, ONE, ROOM, refused(13)
+        yield f'1 before 13, {allowance} allowed', query(POW, allowance=allowance), ONE, ONE, ROOM, refused(1)
+        yield f'2 before 13, {allowance} allowed', query(ADD, matching=3, allowance=allowance), ONE, ONE, ROOM, refused(2)
+        yield f'2 before 13 by a list, {allowance} allowed', query(ADD, join_list=[b'a'], allowance=allowance), ONE, ONE, ROOM, refused(2)
+        yield f'2 before 13 by a byte behind it, {allowance} allowed', above + b'\0', ONE, ONE, ROOM, refused(2)
 
 
 def running():
@@ -193,6 +207,15 @@ def unequal_grids():
             yield f'{number} on the right before 12 by {name}', PLUS, vector(1, **at), right, ROOM, refused(number, 1, place)
 
 
+def merges():
+    def side(rows):
+        return [(BARE, [wire.bits(x) for x in row]) for row in rows]
+    for name, asked, left, right, outcome in allowances.calls():
+        points = len(left[0])
+        result = refused(*outcome) if isinstance(outcome, tuple) else answer(points, *side(outcome))
+        yield name, asked, vector(points, *side(left)), vector(points, *side(right)), ROOM, result
+
+
 def rows(readings):
     return part(wire.readings([reading(x) for x in readings]))
 
@@ -204,7 +227,7 @@ def case(asked, left, right, room, outcome):
             + rows(right[1]) + part(labels) + rows(readings))
 
 
-examples = [*settled(), *misreadings(), *both_sides(), *query_faults(), *running(), *grids(), *unequal_grids()]
+examples = [*settled(), *misreadings(), *both_sides(), *query_faults(), *running(), *grids(), *unequal_grids(), *merges()]
 sample = read('oracle/sample/cases.bin')
 count, = struct.unpack_from('<H', sample)
 FILES = {

@@ -3,6 +3,7 @@ prints for each, worked out by hand here."""
 import struct
 
 import wire
+from expected import allowances
 from wire import ADD, AND, DIV, MAX_START, MAX_STEP, OR, UNLESS, frame, label_part, query, record
 
 
@@ -82,6 +83,20 @@ refused(frame(query(2), b'', b''), 1)
 refused(frame(b'', SINGLE, SINGLE), 2)
 refused(frame(query(ADD) + b'\0', b'', b''), 2)
 
+# the allowance: missing, or with a byte behind it; number 13, after 1 and 2 and before all faults of a vector, for set rules too
+refused(frame(query(ADD)[:-1], SINGLE, SINGLE), 2)
+for allowance in 9, 10, 255:
+    refused(frame(query(ADD, allowance=allowance), SINGLE, SINGLE), 13)
+    refused(frame(query(UNLESS, allowance=allowance), SINGLE, SINGLE), 13)
+    refused(frame(query(ADD, 1, 2, 0, (b'a',), (b'b',), allowance), SINGLE, SINGLE), 13)
+    refused(frame(query(ADD, allowance=allowance), b'', b''), 13)
+    refused(frame(query(ADD, allowance=allowance), SINGLE + b'\0', SINGLE), 13)
+    refused(frame(query(ADD, allowance=allowance), SINGLE, FED), 13)
+    refused(frame(query(19, allowance=allowance), SINGLE, SINGLE), 1)
+    refused(frame(query(ADD, allowance=allowance) + b'\0', SINGLE, SINGLE), 2)
+    refused(frame(query(ADD, 0, 0, 0, (b'a',), allowance=allowance), SINGLE, SINGLE), 2)
+    unreadable(frame(query(ADD, allowance=allowance), SINGLE, SINGLE) + b'\0')
+
 # number 3: sizes cut, 513 series, 1,025 points, a label array shorter than stated, a record cut, 33 tags, label bytes left over
 refused(frame(query(ADD), b'', b''), 3)
 refused(frame(query(ADD), SINGLE[:wire.SIZES - 1], b''), 3)
@@ -151,6 +166,16 @@ for other in {'start': 1}, {'start': 3600000}, {'start': MAX_START}, {'step': 1}
 TWICE = vector(2, (b'a', [], [1, None]), (b'b', [], [None, 1]))
 refused(frame(query(ADD), TWICE, vector(2, (b'', [], [1, 1]))), 7, 1)
 refused(frame(query(ADD), vector(2, (b'', [], [1, 1])), TWICE), 8, 1)
+
+# merges under every allowance
+for _, asked, left, right, outcome in allowances.calls():
+    POINTS = len(left[0])
+    GIVEN = frame(asked, *(vector(POINTS, *((b'', [], row) for row in rows)) for rows in (left, right)))
+    if isinstance(outcome, tuple):
+        refused(GIVEN, *outcome)
+    else:
+        ROWS = ''.join('{}' + ''.join(' %016x' % wire.bits(x) for x in row) + '\n' for row in outcome)
+        case(GIVEN, f'answer {len(outcome)} {POINTS} 0 3600000\n{ROWS}')
 
 # 9: 600 series
 MANY = [(b'', [(b'k', b'%03d' % i)], []) for i in range(600)]

@@ -49,10 +49,7 @@ pub(crate) fn plan(
         ⌝ }
 {
     match rule {
-        Rule::Pairs(q) => {
-            let allowance = query_rules::allowed_overlaps(q);
-            pair_plan::plan_pairs(allowance, shape.points, keys, rows, codes)
-        }
+        Rule::Pairs(q) => pair_plan::plan_pairs(q.allowance, shape.points, keys, rows, codes),
         Rule::Join(w) => {
             join_plan::plan_join(w, lists, shape, labels, at, keys, rows, codes, marks)
         }

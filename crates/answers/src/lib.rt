@@ -44,6 +44,7 @@ pub enum Outcome {
         side: usize,
     },
     GridsDiffer,
+    BadAllowance,
 }
 
 // An outcome in the numbers of 01 and 02.
@@ -96,6 +97,7 @@ pub fn told_as(x: Outcome) -> Told
         Outcome::TooLong => refusal(10, 0, 0),
         Outcome::BadGrid { side } => refusal(11, side, 0),
         Outcome::GridsDiffer => refusal(12, 0, 0),
+        Outcome::BadAllowance => refusal(13, 0, 0),
     }
 }
 

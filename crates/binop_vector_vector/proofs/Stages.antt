@@ -22,7 +22,7 @@ use Rattle.query.specs.declared.Request.{Request}
 use Rattle.query.specs.declared.Request.the-variants as R
 use Rattle.query.specs.Queries.{queryOf, requestNumber, matchingPart, TakenAs}
 use Rattle.query.proofs.Request.{the-type as request-type}
-use Rattle.query.proofs.Takes.{query-taken, operator-refused, query-malformed}
+use Rattle.query.proofs.Takes.{query-taken, operator-refused, query-malformed, allowance-refused}
 use Rattle.timeseries.specs.declared.Taken.{Taken}
 use Rattle.timeseries.specs.declared.Taken.the-variants as T
 use Rattle.timeseries.proofs.Taken.{the-type as taken-type}
@@ -39,7 +39,7 @@ use Rattle.side_parts.specs.Lent.{Sides, shapeOf, BothHeld}
 use Rattle.keyed_sides.specs.Keyed.{dropsMissing, KeysKept, SidesKeyed, withKeys, kept-keyed-by}
 use Rattle.keyed_sides.specs.TakenSides.{TakenSide, lentVector, Took}
 use Rattle.binop_vector_vector.specs.dispatch.Runs.{Asked, ranTaken}
-use Rattle.binop_vector_vector.specs.Stages.{asked-carried, leftStage, rightStage, call-asked, call-operator, call-malformed}
+use Rattle.binop_vector_vector.specs.Stages.{asked-carried, leftStage, rightStage, call-asked, call-operator, call-malformed, call-allowance}
 
 -- `fault_of`
 
@@ -73,21 +73,27 @@ module _ (r : Request) where
   pub refusal-malformed : r ≡ R.Malformed → told Out.Malformed ≡ refusal (requestNumber r) 0 0
   refusal-malformed e = rw e
 
+  pub refusal-allowance : r ≡ R.BadAllowance → told Out.BadAllowance ≡ refusal (requestNumber r) 0 0
+  refusal-allowance e = rw e
+
 pub refusal-none : (r : Request) {A : Type 0} → 0 < requestNumber r → tagOf request-type r ≡ 0 → A
 refusal-none (R.Asked q) h e = absurd (omega (arith, h))
 refusal-none R.BadOperator h e = absurd (omega (arith, e))
 refusal-none R.Malformed h e = absurd (omega (arith, e))
+refusal-none R.BadAllowance h e = absurd (omega (arith, e))
 
 -- a query that is refused, or taken
 
-pub refused-number : (r : Request) → OneOf (1 ∷ 2 ∷ []) (tagOf request-type r) → 0 < requestNumber r
+pub refused-number : (r : Request) → OneOf (1 ∷ 2 ∷ 3 ∷ []) (tagOf request-type r) → 0 < requestNumber r
 refused-number (R.Asked q) h = absurd (not-zero h)
   where
-    not-zero : OneOf (1 ∷ 2 ∷ []) 0 → ⊥
+    not-zero : OneOf (1 ∷ 2 ∷ 3 ∷ []) 0 → ⊥
     not-zero (inl e) = omega (arith, e)
-    not-zero (inr e) = omega (arith, e)
+    not-zero (inr (inl e)) = omega (arith, e)
+    not-zero (inr (inr e)) = omega (arith, e)
 refused-number R.BadOperator h = omega arith
 refused-number R.Malformed h = omega arith
+refused-number R.BadAllowance h = omega arith
 
 module _ (s : List ℕ) (r : Request) (h : TakenAs s (Model.takeQuery s) r) where
   module _ (q : Query) (e : r ≡ R.Asked q) where
@@ -110,6 +116,9 @@ module _ (s : List ℕ) (r : Request) (h : TakenAs s (Model.takeQuery s) r) wher
             (record { outcome = t; labelPart = refl; readingPart = refl })
         by R.Malformed y n t = rw
             (call-malformed s labels readings labels′ readings′ (length labels₀) (length out₀) (query-malformed s (Model.takeQuery s) (rw y at h)))
+            (record { outcome = t; labelPart = refl; readingPart = refl })
+        by R.BadAllowance y n t = rw
+            (call-allowance s labels readings labels′ readings′ (length labels₀) (length out₀) (allowance-refused s (Model.takeQuery s) (rw y at h)))
             (record { outcome = t; labelPart = refl; readingPart = refl })
 
     pub ran-asked : (q : Query) → r ≡ R.Asked q → (d o : List ℕ) (x : Outcome)

@@ -14,8 +14,8 @@ use Rattle.query.specs.Queries.{queryOf}
 pub asked-carried : (s : List ℕ) (q : Query) → Model.takeQuery s ≡ Model.query (queryOf s q) → isCarried (q .operator) ≡ true
 asked-carried s q h =
     let t = taken-query s (queryOf s q) h in
-    let same : q .operator ≡ t .operator = ap (λ (m : Model.Query). m .operator) (t .is) in
-    rw same (t .good .carried)
+    let same : q .operator ≡ t .whole .operator = ap (λ (m : Model.Query). m .operator) (t .is) in
+    rw same (t .whole .good .carried)
 
 -- the stages, behind one another
 
@@ -42,3 +42,6 @@ module _ (s : List ℕ) (labels readings labels′ readings′ : List ℕ) (labe
 
   pub call-malformed : Model.takeQuery s ≡ Model.malformed → call s labels readings labels′ readings′ labelRoom room ≡ refused 2 0 0
   call-malformed h = call-by Model.malformed h
+
+  pub call-allowance : Model.takeQuery s ≡ Model.badAllowance → call s labels readings labels′ readings′ labelRoom room ≡ refused 13 0 0
+  call-allowance h = call-by Model.badAllowance h

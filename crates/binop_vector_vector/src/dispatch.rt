@@ -69,7 +69,7 @@ fn work_of(q: Query, left: bool, lists: [&[u8]; 2]) -> Work
         as_bool: q.as_bool,
         left,
         naming: set_tags::naming_of(lists[0], lists[1], reset),
-        allowance: query_rules::allowed_overlaps(q),
+        allowance: q.allowance,
     }
 }
 

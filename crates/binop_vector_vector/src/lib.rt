@@ -32,6 +32,7 @@ fn refusal_of(asked: Request) -> Outcome
     match asked {
         Request::BadOperator => Outcome::BadOperator,
         Request::Malformed => Outcome::Malformed,
+        Request::BadAllowance => Outcome::BadAllowance,
         Request::Asked(_) => Outcome::Malformed,
     }
 }

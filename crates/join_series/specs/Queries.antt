@@ -12,7 +12,7 @@ use Rattle.model.specs.Labels.{Labels, ascending, WellFormed}
 use Rattle.model.specs.Record.{encode}
 use Rattle.model.specs.Edits.{Names}
 use Rattle.model.specs.Query.{Query, Side, shouldResetMetricGroup}
-use Rattle.semantics.specs.Binop.{skipList, joinedLabels, joinRows, allowedOverlaps}
+use Rattle.semantics.specs.Binop.{skipList, joinedLabels, joinRows}
 use Rattle.plan.specs.Pairs.{noLabels}
 use Rattle.plan.specs.Joins.{JoinWork, workOf, editOf, sameEditedBy, leadOf, leadsAmong, leadsFor, manyPlace, onePlace}
 use Rattle.plan.specs.Joins.{joinClash, joinRowsFrom, joinLabels, joinRow, joinSeries, joinOutcome}
@@ -33,7 +33,7 @@ pub record WorkOf (q : Query) (join skip : Names) (w : Work) : Type 0 where
   pub operator : q .operator ≡ w .operator
   pub bool : q .bool ≡ w .«as_bool»
   pub naming : w .naming ≡ namingOf join skip (shouldResetMetricGroup q)
-  pub allowance : w .allowance ≡ allowedOverlaps q
+  pub allowance : w .allowance ≡ q .allowance
 
 -- labels each of which is well formed
 

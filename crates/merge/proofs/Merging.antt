@@ -12,11 +12,12 @@ use lib.Dec.{eqb, leb, ltb}
 use lib.ListN.{length, getD, drop, take, set, length-set, drop-of-length-le}
 use lib.Seq.{drop-cons, take-suc-set, drop-set-lt, append-snoc, take-all}
 use borrow.Author.Tests.{eq-eqb, ne-eqb, le-leb, lt-leb, leb-true, leb-false, lt-ltb, le-ltb}
+use Rattle.model.specs.Limits.{maxAllowance}
 use Rattle.model.specs.Reading.{missing}
 use Rattle.model.specs.Row.{overlaps, overwritten, merged}
-use Rattle.merge.specs.declared.Merged.the-variants.{Done, Overlapping, Unequal}
+use Rattle.merge.specs.declared.Merged.the-variants.{Done, Overlapping, Unequal, BadAllowance}
 use Rattle.reading.specs.Gaps.{gapOf}
-use Rattle.merge.specs.Merging.{eitherGap, sourceFirst, mergedIf, mergeable, MergedAs, mergedAlone}
+use Rattle.merge.specs.Merging.{eitherGap, sourceFirst, mergedIf, mergeable, done, overlapping, refused, doneOr, MergedAs, mergedAlone}
 
 -- 1 where one is missing
 
@@ -130,26 +131,34 @@ module _ (before s : List ℕ) where
     pub overwrite-ends : length d ≤ i → d ≡ overwritten before s
     overwrite-ends h = sym (over h) ∙ o .rest
 
--- what merging answers
+-- what merging alone answers
 
 module _ (allowance : ℕ) (d s : List ℕ) where
-  pub unequal : (length d ≡ length s → ⊥) → MergedAs allowance d s Unequal d
+  pub over-allowed : maxAllowance < allowance → MergedAs allowance d s BadAllowance d
   unfolding mergedAlone
-  unequal h = record { answer = simp (ne-eqb _ _ h); left = simp (ne-eqb _ _ h) }
+  over-allowed h = record { answer = rw (lt-leb allowance maxAllowance h); left = rw (lt-leb allowance maxAllowance h) }
 
-  module _ (same : length d ≡ length s) where
-    pub too-short : length d ≤ 2 → MergedAs allowance d s Overlapping d
-    unfolding mergedAlone merged
-    too-short h = record { answer = simp (eq-eqb _ _ same, le-leb _ _ h); left = simp (eq-eqb _ _ same, le-leb _ _ h) }
+  module _ (few : allowance ≤ maxAllowance) where
+    pub unequal : (length d ≡ length s → ⊥) → MergedAs allowance d s Unequal d
+    unfolding mergedAlone
+    unequal h =
+        let e : mergedAlone allowance d s ≡ refused 6 = rw (le-leb allowance maxAllowance few, ne-eqb (length d) (length s) h) in
+        record { answer = sym e; left = rw e }
 
-    module _ (long : 2 < length d) where
-      pub overlap : allowance < overlaps d s → MergedAs allowance d s Overlapping d
-      unfolding mergedAlone merged
-      overlap h = record { answer = simp (eq-eqb _ _ same, lt-leb _ _ long, lt-ltb _ _ h); left = simp (eq-eqb _ _ same, lt-leb _ _ long, lt-ltb _ _ h) }
+    module _ (same : length d ≡ length s) (r : Bool) (tried : mergedIf r d s ≡ merged allowance d s) where
+      alone : mergedAlone allowance d s ≡ doneOr (mergedIf r d s)
+      unfolding mergedAlone
+      alone = rw (le-leb allowance maxAllowance few, eq-eqb (length d) (length s) same, tried)
 
-      pub merges : overlaps d s ≤ allowance → MergedAs allowance d s Done (overwritten d s)
-      unfolding mergedAlone merged
-      merges h = record { answer = simp (eq-eqb _ _ same, lt-leb _ _ long, le-ltb _ _ h); left = simp (eq-eqb _ _ same, lt-leb _ _ long, le-ltb _ _ h) }
+      pub done-by : r ≡ true → (row : List ℕ) → row ≡ overwritten d s → MergedAs allowance d s Done row
+      done-by h row k =
+          let e : mergedAlone allowance d s ≡ done (overwritten d s) = alone ∙ rw h in
+          record { answer = rw k (sym e); left = k ∙ rw e }
+
+      pub overlapping-by : r ≡ false → MergedAs allowance d s Overlapping d
+      overlapping-by h =
+          let e : mergedAlone allowance d s ≡ overlapping = alone ∙ rw h in
+          record { answer = sym e; left = rw e }
 
 -- whether a merge succeeds
 

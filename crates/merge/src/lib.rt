@@ -1,4 +1,5 @@
 // One row merged into another.
+use operator::Operator;
 ghost use mathlib.Core.Path.{_≡_};
 ghost use mathlib.Core.Bool.{_&&_};
 ghost use lib.ListN.{length};
@@ -9,6 +10,7 @@ pub enum Merged {
     Done,
     Overlapping,
     Unequal,
+    BadAllowance,
 }
 
 // 1 where one of two readings is missing, else 0.
@@ -51,23 +53,6 @@ pub fn overwrite(dst: &mut [u64], src: &[u64])
     }
 }
 
-// Merges src into dst where at most `allowance` places have both; the destination changes only then, so the places are counted first.
-pub fn merge_non_overlapping_timeseries(dst: &mut [u64], src: &[u64], allowance: usize) -> Merged
-    ensures { λ r. ⌜ MergedAs allowance (now (dst .entry)) (now (src .entry)) r (now (dst .exit)) ⌝ }
-{
-    if dst.len() != src.len() {
-        return Merged::Unequal;
-    }
-    if dst.len() <= 2 {
-        return Merged::Overlapping;
-    }
-    if overlaps(dst, src) > allowance {
-        return Merged::Overlapping;
-    }
-    overwrite(dst, src);
-    Merged::Done
-}
-
 // Whether src merges into dst; nothing is written.
 pub fn merges(dst: &[u64], src: &[u64], allowance: usize) -> bool
     requires { ⌜ length (now src) ≡ length (now dst) ⌝ }
@@ -77,6 +62,23 @@ pub fn merges(dst: &[u64], src: &[u64], allowance: usize) -> bool
         return false;
     }
     overlaps(dst, src) <= allowance
+}
+
+// Merges src into dst where at most `allowance` places have both; the destination changes only then.
+pub fn merge_non_overlapping_timeseries(dst: &mut [u64], src: &[u64], allowance: usize) -> Merged
+    ensures { λ r. ⌜ MergedAs allowance (now (dst .entry)) (now (src .entry)) r (now (dst .exit)) ⌝ }
+{
+    if Operator::MAX_ALLOWANCE < allowance {
+        return Merged::BadAllowance;
+    }
+    if dst.len() != src.len() {
+        return Merged::Unequal;
+    }
+    if merges(dst, src, allowance) {
+        overwrite(dst, src);
+        return Merged::Done;
+    }
+    Merged::Overlapping
 }
 
 // Whether two rows merge, each into its own destination; nothing is written. All four are read in one pass: memory

@@ -11,10 +11,8 @@ use lib.ListN.{length, getD, take, drop, length-drop}
 use lib.Seq.{drop-cons, length-take-le, take-all}
 use borrow.Author.Tests.{eq-eqb, ne-eqb}
 use Rattle.model.specs.Lists.{cases}
-use Rattle.model.specs.Row.{merged}
-use Rattle.merge.specs.declared.Merged.{Merged}
-use Rattle.merge.specs.declared.Merged.the-variants as M
-use Rattle.merge.specs.Merging.{done, overlapping, refused, doneOr, mergedAlone, MergedAs}
+use Rattle.model.specs.Row.{overwritten, merged}
+use Rattle.merge.specs.Merging.{mergedIf}
 use Rattle.plan.specs.Merging.{RowMerge, row, failedAt, onRow, mergeGroup, mergeLead}
 use Rattle.side_parts.specs.Sides.{rowAt}
 use Rattle.side_parts.specs.SideLaws.{row-in, row-width}
@@ -24,53 +22,24 @@ use Rattle.merging.specs.Groups.{absorbedOne, thereIf, AbsorbedAs, Merge
 
 -- `absorb`
 
-done-some : (d : List ℕ) (o : Option (List ℕ)) → done d ≡ doneOr o → some d ≡ o
-done-some d none h = cc
-done-some d (some e) h = cc
-
-overlapping-none : (o : Option (List ℕ)) → overlapping ≡ doneOr o → none ≡ o
-overlapping-none none h = refl
-overlapping-none (some e) h = cc
-
-never-refused : {X : Type 0} (o : Option (List ℕ)) → refused 6 ≡ doneOr o → X
-never-refused none h = absurd (let z : _≡_ {A = ℕ} 0 1 = cc in omega arith)
-never-refused (some e) h = absurd (let z : _≡_ {A = ℕ} 0 1 = cc in omega arith)
-
 module _ (allowance : ℕ) (rows : List ℕ) (x g i : ℕ) (d : List ℕ) where
   pub absorb-other : (x ≡ g → ⊥) → AbsorbedAs allowance rows x g i d d true
   absorb-other h = record { answer = rw (ne-eqb x g h); unmerged = λ e. refl; long = refl }
 
-  module _ (h : x ≡ g) (room : i * length d + length d ≤ length rows) (s : List ℕ) (hs : s ≡ rowAt (length d) rows i) (m : Merged) (d′ : List ℕ)
-      (u : MergedAs allowance d s m d′) (long : length d′ ≡ length d) where
-    wide : length d ≡ length s
-    wide = sym (ap length hs ∙ length-take-le (length d) (drop (i * length d) rows) (omega (arith, length-drop (i * length d) rows)))
+  -- the row that the code lends
+  module _ (room : i * length d + length d ≤ length rows) (s : List ℕ) (hs : s ≡ rowAt (length d) rows i) where
+    pub row-wide : length s ≡ length d
+    row-wide = ap length hs ∙ length-take-le (length d) (drop (i * length d) rows) (omega (arith, length-drop (i * length d) rows))
 
-    alone : mergedAlone allowance d s ≡ doneOr (merged allowance d (rowAt (length d) rows i))
-    unfolding mergedAlone
-    alone = rw (eq-eqb (length d) (length s) wide, hs)
+    module _ (h : x ≡ g) (r : Bool) (tried : mergedIf r d s ≡ merged allowance d s) where
+      one : mergedIf r d s ≡ absorbedOne allowance rows x g i d
+      one = rw (eq-eqb x g h, ← hs) tried
 
-    one : absorbedOne allowance rows x g i d ≡ merged allowance d (rowAt (length d) rows i)
-    one = rw (eq-eqb x g h)
+      pub absorb-done : r ≡ true → (d′ : List ℕ) → d′ ≡ overwritten d s → length d′ ≡ length d → AbsorbedAs allowance rows x g i d d′ true
+      absorb-done e d′ hd long = record { answer = rw (hd, ← one, e); unmerged = λ f. cc; long = long }
 
-    pub absorb-done : m ≡ M.Done → AbsorbedAs allowance rows x g i d d′ true
-    absorb-done e =
-        record {
-          answer = done-some d′ (merged allowance d (rowAt (length d) rows i)) (rw e at (u .answer) ∙ alone) ∙ sym one;
-          unmerged = λ f. cc;
-          long = long;
-        }
-
-    pub absorb-overlapping : m ≡ M.Overlapping → AbsorbedAs allowance rows x g i d d′ false
-    absorb-overlapping e =
-        let o : overlapping ≡ mergedAlone allowance d s = rw e at (u .answer) in
-        record {
-          answer = overlapping-none (merged allowance d (rowAt (length d) rows i)) (o ∙ alone) ∙ sym one;
-          unmerged = λ f. rw (← o) at (u .left);
-          long = long;
-        }
-
-    pub absorb-unequal : m ≡ M.Unequal → AbsorbedAs allowance rows x g i d d′ false
-    absorb-unequal e = never-refused (merged allowance d (rowAt (length d) rows i)) (rw e at (u .answer) ∙ alone)
+      pub absorb-overlapping : r ≡ false → AbsorbedAs allowance rows x g i d d false
+      absorb-overlapping e = record { answer = rw (← one, e); unmerged = λ f. refl; long = refl }
 
 -- the loop of `merge_between`
 

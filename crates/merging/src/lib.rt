@@ -1,6 +1,5 @@
 // Rows of one array merged by their groups, for a plan, which is told of a row that may not be merged: the series of a
 // key into the last of them, and those behind a leader into it.
-use merge::Merged;
 ghost use mathlib.Core.Path.{_≡_};
 ghost use Prim.Native.Nat.{_+_, _-_, _*_, _≤_, _<_};
 ghost use lib.ListN.{length, take, drop};
@@ -15,12 +14,12 @@ fn absorb(rows: &[u64], x: usize, g: usize, i: usize, allowance: usize, dst: &mu
     if x != g {
         return true;
     }
-    let p = dst.len();
-    match merge::merge_non_overlapping_timeseries(dst, side_parts::row(rows, p, i), allowance) {
-        Merged::Done => true,
-        Merged::Overlapping => false,
-        Merged::Unequal => false,
+    let src = side_parts::row(rows, dst.len(), i);
+    if merge::merges(dst, src, allowance) {
+        merge::overwrite(dst, src);
+        return true;
     }
+    false
 }
 
 // What the merges of a group come to.

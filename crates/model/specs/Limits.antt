@@ -30,3 +30,7 @@ maxStart = 4503599627370496
 
 abbrev pub maxStep : ℕ
 maxStep = 86400000
+
+-- 02: the number of overlapping places a merge allows, 0 to 8
+abbrev pub maxAllowance : ℕ
+maxAllowance = 8

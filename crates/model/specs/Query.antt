@@ -7,7 +7,7 @@ use lib.Dec.{leb, eqb}
 use Rattle.operator.specs.declared.Operator.{Operator}
 use Rattle.operator.specs.Kinds.{Kind, arithmetic, comparison, setRule, fallback, notCarried, kindOf}
 use Rattle.operator.specs.Operators.{operatorOf, isCarried}
-use Rattle.model.specs.Limits.{maxListed}
+use Rattle.model.specs.Limits.{maxListed, maxAllowance}
 use Rattle.model.specs.Lists.{isEmpty}
 use Rattle.model.specs.Labels.{Tag, Labels, sameTags}
 use Rattle.model.specs.Record.{readField, onField}
@@ -32,6 +32,7 @@ pub record Query : Type 0 where
   pub bool : Bool
   pub matchingList : Names
   pub joinList : Names
+  pub allowance : ℕ  -- at how many places a merge of its series may overlap
 
 -- 01: The key is the tags in the `on` list, or outside the `ignoring` list, or all; the name is never in it, `on(__name__)` included.
 unfoldable pub keyOf : Matching → Names → List Tag → List Tag
@@ -62,10 +63,12 @@ shouldResetMetricGroup q = resets (q .operator) (q .keepNames) (q .bool)
 -- taking
 
 -- 01: 1, operator above 18, or 2 or 8; then 2, the query otherwise not as above, bytes left over included.
+-- 02: 13, an allowance above 8, after number 2.
 pub data TakenQuery : Type 0 where
   query : Query → TakenQuery
   badOperator : TakenQuery
   malformed : TakenQuery
+  badAllowance : TakenQuery
 
 -- 01: matching byte (0 none, 1 on, 2 ignoring)
 abbrev pub matchingOf : ℕ → Matching
@@ -112,15 +115,29 @@ isGroup (group s) = true
 abbrev pub fitting : Query → Bool
 fitting q = (isMatched (q .matching) || isEmpty (q .matchingList)) && (isGroup (q .join) || isEmpty (q .joinList))
 
-abbrev pub ended : Query → List ℕ → TakenQuery
-ended q rest = cond (isEmpty rest && fitting q) (query q) malformed
+-- 02: 13, an allowance above 8
+abbrev pub allowing : Query → TakenQuery
+allowing q = cond (leb (q .allowance) maxAllowance) (query q) badAllowance
+
+-- 02: The query gains a last byte, behind the join list: the number of overlapping places a merge allows.
+abbrev pub ended : (ℕ → Query) → List ℕ → TakenQuery
+ended q [] = malformed
+ended q (a ∷ rest) = cond (isEmpty rest && fitting (q a)) (allowing (q a)) malformed
 
 -- 01: flag byte (0 neither, 1 keep names, 2 bool, 3 both)
-abbrev pub queryOf : Operator → ℕ → ℕ → ℕ → Names → Names → Query
-queryOf o m j f ns js =
-    record { operator = o; matching = matchingOf m; join = joinOf j; keepNames = eqb f 1 || eqb f 3; bool = leb 2 f; matchingList = ns; joinList = js }
+abbrev pub queryOf : Operator → ℕ → ℕ → ℕ → Names → Names → ℕ → Query
+queryOf o m j f ns js a = record {
+  operator = o;
+  matching = matchingOf m;
+  join = joinOf j;
+  keepNames = eqb f 1 || eqb f 3;
+  bool = leb 2 f;
+  matchingList = ns;
+  joinList = js;
+  allowance = a;
+}
 
--- 01: matching list; join list
+-- 01: matching list; join list. 02: a last byte
 abbrev pub withLists : Operator → ℕ → ℕ → ℕ → List ℕ → TakenQuery
 withLists o m j f s =
     onListed (listIn s) malformed (λ ns s₁. onListed (listIn s₁) malformed (λ js s₂. ended (queryOf o m j f ns js) s₂))
@@ -135,7 +152,7 @@ abbrev pub asked : Option Operator → List ℕ → TakenQuery
 asked none s = badOperator
 asked (some o) s = cond (isCarried o) (modified o s) badOperator
 
--- 01: A query is: operator byte; matching byte; join byte; flag byte; matching list; join list.
+-- 01: A query is: operator byte; matching byte; join byte; flag byte; matching list; join list. 02: a last byte, the allowance.
 unfoldable pub takeQuery : List ℕ → TakenQuery
 takeQuery [] = malformed
 takeQuery (o ∷ s) = asked (operatorOf o) s

@@ -29,11 +29,7 @@ overwritten [] ys = []
 overwritten (x ∷ xs) [] = x ∷ xs
 overwritten (x ∷ xs) (y ∷ ys) = cond (missing y) x y ∷ overwritten xs ys
 
--- 01: `merge_non_overlapping_timeseries` refuses at the third place where both have a reading, or if p is at most 2.
--- The destination with the source merged into it, where at most `allowance` places may overlap.
+-- 02: Merging answers overlapping at the first place beyond the allowance, or if p is at most 2. (01's is 2: it refuses at the third
+-- place where both have a reading.) The destination with the source merged into it.
 unfoldable pub merged : ℕ → List ℕ → List ℕ → Option (List ℕ)
 merged allowance d s = cond (leb (length d) 2 || ltb allowance (overlaps d s)) none (some (overwritten d s))
-
--- the overlapping places that 01 allows
-abbrev pub twoOverlaps : ℕ
-twoOverlaps = 2

@@ -54,6 +54,9 @@ impl Operator {
     // The longest step of a grid, in milliseconds: a day.
     pub const MAX_STEP: usize = 86400000;
 
+    // The most overlapping places that a merge may allow.
+    pub const MAX_ALLOWANCE: usize = 8;
+
     pub fn from_byte(b: u8) -> Coded
         ensures { λ r. ⌜ r ≡ codedOf b ⌝ }
     {

@@ -13,7 +13,7 @@ use Rattle.model.specs.Query as Model
 use Rattle.model.specs.Query.{Side, left, right}
 use Rattle.model.specs.Vector.{Series}
 use Rattle.record_tags.specs.Lenient.{labelsOf}
-use Rattle.semantics.specs.Binop.{adjustBinaryOpTags, allowedOverlaps}
+use Rattle.semantics.specs.Binop.{adjustBinaryOpTags}
 use Rattle.plan.specs.Keys.{firstOf, lastOf, KeyEnds}
 use Rattle.plan.specs.Merging.{RowMerge, row, failedAt, mergeLast, rowOf, clash}
 use Rattle.plan.specs.Pairs.{isPair, pairClash, pairsClash, pairsFrom, pairRow, pairSeries, noLabels}
@@ -84,7 +84,7 @@ module _ (s : Sides) (held : BothHeld s) (k i : ℕ) (pairs : isPair (s .left .k
   stands-right : firstOf (s .right .keys) k < length (s .right .keys)
   stands-right = pair-right (s .left .keys) (s .right .keys) k i true (sym pairs) refl
 
-  module _ (q : Model.Query) (clear : pairClash (allowedOverlaps q) s k ≡ none) where
+  module _ (q : Model.Query) (clear : pairClash (q .allowance) s k ≡ none) where
     abbrev last : ℕ
     last = lastOf (s .left .keys) k
 
@@ -98,27 +98,27 @@ module _ (s : Sides) (held : BothHeld s) (k i : ℕ) (pairs : isPair (s .left .k
         (sym (adjusted-kept q (labelsOf (recordAt (s .left .array) (s .left .at) last))
         (held .left .formed .labels last place .order)))
 
-    clear-both : (clash left last (leftMerged (allowedOverlaps q) s k) ≡ none) ×
-        (clash right (lastOf (s .right .keys) k) (rightMerged (allowedOverlaps q) s k) ≡ none)
+    clear-both : (clash left last (leftMerged (q .allowance) s k) ≡ none) ×
+        (clash right (lastOf (s .right .keys) k) (rightMerged (q .allowance) s k) ≡ none)
     clear-both =
-        both-none (clash left last (leftMerged (allowedOverlaps q) s k))
-        (clash right (lastOf (s .right .keys) k) (rightMerged (allowedOverlaps q) s k)) clear
+        both-none (clash left last (leftMerged (q .allowance) s k))
+        (clash right (lastOf (s .right .keys) k) (rightMerged (q .allowance) s k)) clear
 
     left-coded : codedSide (s .shape .points) (s .left .rows) (s .left .keys)
-        (leftFirst (codeOf s k)) (leftLast (codeOf s k)) ≡ rowOf (leftMerged (allowedOverlaps q) s k)
+        (leftFirst (codeOf s k)) (leftLast (codeOf s k)) ≡ rowOf (leftMerged (q .allowance) s k)
     left-coded =
-        side-merged (allowedOverlaps q) (s .shape .points) (s .left .rows) (s .left .keys) k
+        side-merged (q .allowance) (s .shape .points) (s .left .rows) (s .left .keys) k
         (leftFirst (codeOf s k)) (leftLast (codeOf s k))
         (left-ends (s .left .keys) (s .right .keys) k (codeOf s k) code _ _ refl refl)
-        (all-merge left last (leftMerged (allowedOverlaps q) s k) (clear-both .0))
+        (all-merge left last (leftMerged (q .allowance) s k) (clear-both .0))
 
     right-coded : codedSide (s .shape .points) (s .right .rows) (s .right .keys)
-        (rightFirst (codeOf s k)) (rightLast (codeOf s k)) ≡ rowOf (rightMerged (allowedOverlaps q) s k)
+        (rightFirst (codeOf s k)) (rightLast (codeOf s k)) ≡ rowOf (rightMerged (q .allowance) s k)
     right-coded =
-        side-merged (allowedOverlaps q) (s .shape .points) (s .right .rows) (s .right .keys) k
+        side-merged (q .allowance) (s .shape .points) (s .right .rows) (s .right .keys) k
         (rightFirst (codeOf s k)) (rightLast (codeOf s k))
         (right-ends (s .left .keys) (s .right .keys) k (codeOf s k) code _ _ refl refl)
-        (all-merge right (lastOf (s .right .keys) k) (rightMerged (allowedOverlaps q) s k) (clear-both .1))
+        (all-merge right (lastOf (s .right .keys) k) (rightMerged (q .allowance) s k) (clear-both .1))
 
     row-coded : codedPairRow (q .operator) (q .bool) s (codeOf s k)
         ≡ pairRow q s (getD (s .left .keys) last 0)
@@ -174,20 +174,20 @@ module _ (s : Sides) (held : BothHeld s) where
     pairsOn i rest = pairsFrom (s .left .keys) (s .right .keys) i rest
 
     series-each : (rest : List ℕ) (i : ℕ) → i + length rest ≤ length (s .left .keys)
-        → pairsClash (allowedOverlaps q) s i rest ≡ none
+        → pairsClash (q .allowance) s i rest ≡ none
         → map (codedPairSeries q s) (codesOn i rest) ≡ map (pairSeries q s) (pairsOn i rest)
     unfolding pairsClash pairsFrom codesFrom
     series-each [] i w c = refl
     series-each (k ∷ rest) i w c =
-        let clear = both-none (cond (pairsAt k i) (pairClash (allowedOverlaps q) s k) none)
-        (pairsClash (allowedOverlaps q) s (suc i) rest) c in
+        let clear = both-none (cond (pairsAt k i) (pairClash (q .allowance) s k) none)
+        (pairsClash (q .allowance) s (suc i) rest) c in
         either-map (codedPairSeries q s) (pairSeries q s) (pairsAt k i) (codeOf s k) (lastOf (s .left .keys) k)
         (codesOn (suc i) rest) (pairsOn (suc i) rest)
         (λ e. series-coded s held k i e (omega arith) q (rw e at (clear .0)))
         (series-each rest (suc i) (omega arith) (clear .1))
 
     -- without a clash, the codes stand for the answer series
-    pub codes-series : pairsClash (allowedOverlaps q) s 0 (s .left .keys) ≡ none
+    pub codes-series : pairsClash (q .allowance) s 0 (s .left .keys) ≡ none
         → map (codedPairSeries q s) (pairCodes s)
         ≡ map (pairSeries q s) (pairsFrom (s .left .keys) (s .right .keys) 0 (s .left .keys))
     codes-series c = series-each (s .left .keys) 0 (omega arith) c

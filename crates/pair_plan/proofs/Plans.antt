@@ -7,10 +7,6 @@ use native.Mathlib.Omega.{arith}
 use Rattle.plan.specs.Pairs.{pairsClash}
 use Rattle.side_parts.specs.Lent.{Sides, rowsOnly}
 use Rattle.semantics.specs.Events.{Duplicate}
-use Rattle.semantics.specs.Binop.{allowedOverlaps}
-use Rattle.query.specs.declared.Query.{Query}
-use Rattle.query_rules.specs.Allowances.{allowedBy}
-use Rattle.pair_records.specs.adjusted_labels.Edits.{pairQuery}
 use Rattle.index_lists.specs.Places.{NotedAll}
 use Rattle.answers.specs.declared.Planned.the-variants as P
 use Rattle.answers.specs.Plans.{PlannedAs}
@@ -46,8 +42,3 @@ pub clash-unlabelled : (allowance : ℕ) (s : Sides) (i : ℕ) (rest : List ℕ)
 unfolding pairsClash
 clash-unlabelled allowance s i [] = refl
 clash-unlabelled allowance s i (k ∷ rest) = rw (clash-unlabelled allowance s (suc i) rest)
-
--- the allowance of the code's query is that of the definitions' one
-pub allowed-is : (names : List ℕ) (q : Query) → allowedBy q ≡ allowedOverlaps (pairQuery names q)
-unfolding allowedOverlaps
-allowed-is names q = refl

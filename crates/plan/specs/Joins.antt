@@ -12,7 +12,7 @@ use Rattle.model.specs.Vector.{Series}
 use Rattle.semantics.specs.Events.{Duplicate}
 use Rattle.semantics.specs.Call.{Outcome}
 use Rattle.semantics.specs.Rules.{other}
-use Rattle.semantics.specs.Binop.{joinedLabels, joinRows, allowedOverlaps}
+use Rattle.semantics.specs.Binop.{joinedLabels, joinRows}
 use Rattle.plan.specs.Keys.{dropped}
 use Rattle.side_parts.specs.Sides.{rowAt}
 use Rattle.side_parts.specs.Lent.{Sides, sideLabels}
@@ -33,7 +33,7 @@ abbrev pub workOf : Query → Side → JoinWork
 workOf q many = record {
   labels = joinedLabels q;
   rows = joinRows many (scalarOp (q .operator) (q .bool));
-  allowance = allowedOverlaps q;
+  allowance = q .allowance;
 }
 
 -- the tags that many-side labels have after an edit from one-side labels

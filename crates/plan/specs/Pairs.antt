@@ -12,7 +12,7 @@ use Rattle.model.specs.Query.{Query, left, right}
 use Rattle.model.specs.Vector.{Series}
 use Rattle.semantics.specs.Events.{Duplicate}
 use Rattle.semantics.specs.Call.{Outcome}
-use Rattle.semantics.specs.Binop.{adjustBinaryOpTags, allowedOverlaps}
+use Rattle.semantics.specs.Binop.{adjustBinaryOpTags}
 use Rattle.side_parts.specs.Lent.{Sides, sideLabels}
 use Rattle.plan.specs.Keys.{dropped, firstOf, lastOf}
 use Rattle.plan.specs.Merging.{mergeLast, rowOf, clash}
@@ -47,8 +47,8 @@ noLabels = record { name = []; tags = [] }
 unfoldable pub pairRow : Query → Sides → ℕ → List ℕ
 pairRow q s k =
     zipWith (scalarOp (q .operator) (q .bool))
-    (rowOf (mergeLast (allowedOverlaps q) (s .shape .points) (s .left .rows) (s .left .keys) k))
-    (rowOf (mergeLast (allowedOverlaps q) (s .shape .points) (s .right .rows) (s .right .keys) k))
+    (rowOf (mergeLast (q .allowance) (s .shape .points) (s .left .rows) (s .left .keys) k))
+    (rowOf (mergeLast (q .allowance) (s .shape .points) (s .right .rows) (s .right .keys) k))
 
 -- the answer series whose labels are those of the left place j
 unfoldable pub pairSeries : Query → Sides → ℕ → Series
@@ -59,5 +59,5 @@ pairSeries q s j =
 abbrev pub pairsOutcome : Query → ℕ → ℕ → Sides → Outcome
 pairsOutcome q labelRoom room s =
     conclude labelRoom room (s .shape)
-    (pairsClash (allowedOverlaps q) s 0 (s .left .keys))
+    (pairsClash (q .allowance) s 0 (s .left .keys))
     (map (pairSeries q s) (pairsFrom (s .left .keys) (s .right .keys) 0 (s .left .keys)))

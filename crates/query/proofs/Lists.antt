@@ -7,7 +7,7 @@ use native.Mathlib.Nat.{add-zero}
 use native.Mathlib.Omega.{arith}
 use lib.Dec.{leb, eqb}
 use lib.ListN.{length, getD, take, drop, length-append, length-drop, drop-of-length-le}
-use lib.Seq.{take-all, take-at, drop-at, drop-drop, getD-drop}
+use lib.Seq.{take-all, take-at, drop-at, drop-drop, drop-cons, getD-drop}
 use borrow.Author.Tests.{ne-eqb}
 use Rattle.model.specs.Limits.{maxListed}
 use Rattle.model.specs.Lists.{isEmpty}
@@ -20,7 +20,7 @@ use Rattle.labels.specs.Names.{namesOf, names-listed}
 use Rattle.query.specs.declared.list_ends.ListEnd.{ListEnd}
 use Rattle.query.specs.declared.list_ends.ListEnd.the-variants.{Until, Bad}
 use Rattle.query.specs.list_ends.Ends.{endOf, endTold}
-use Rattle.query.specs.Queries.{lists, noLists, listsIn, matchingPart, Counts, ListsAt}
+use Rattle.query.specs.Queries.{lists, noLists, closed, listsIn, matchingPart, Counts, ListsAt}
 
 -- what is read as ns with `rest` behind it is a front that is read as ns alone
 record Front (read : List ℕ → Listed) (s : List ℕ) (ns : Names) (rest : List ℕ) : Type 0 where
@@ -151,9 +151,16 @@ module _ (k : ℕ) (s : List ℕ) (r : ListEnd) (e : endTold r ≡ endOf (length
 
 -- the lists of a query
 
-not-empty : (s : List ℕ) → 0 < length s → isEmpty s ≡ false
-not-empty [] h = absurd (omega arith)
-not-empty (x ∷ xs) h = refl
+not-closed : (ns js : Names) (s : List ℕ) → (length s ≡ 1 → ⊥) → closed ns js s ≡ noLists
+not-closed ns js [] h = refl
+not-closed ns js (x ∷ []) h = absurd (h refl)
+not-closed ns js (x ∷ y ∷ s) h = refl
+
+-- the last byte by itself
+last-alone : (s : List ℕ) (k : ℕ) → k < length s → k ≡ length s - 1 → drop k s ≡ getD s (length s - 1) 0 ∷ []
+last-alone s k l h =
+    let past : length s ≤ suc k = omega (arith, h) in
+    rw (← h) (drop-cons s k 0 l ∙ ap (λ t. getD s k 0 ∷ t) (drop-of-length-le s past))
 
 no-until : {X : Type 0} (at : ℕ) → Bad ≡ Until at → X
 no-until at e = absurd (let z : _≡_ {A = ℕ} 0 1 = cc in omega arith)
@@ -166,29 +173,29 @@ module _ (s : List ℕ) where
   first-bad e = refused-lists s (rw e)
 
   module _ (n : ℕ) (first : ListTaken (drop 4 s) n) where
-    second-at : listsIn (drop 4 s) ≡ onListed (listIn (drop (4 + n) s)) noLists (λ js s₂. cond (isEmpty s₂) (lists (first .names) js) noLists)
+    second-at : listsIn (drop 4 s) ≡ onListed (listIn (drop (4 + n) s)) noLists (λ js s₂. closed (first .names) js s₂)
     second-at = rw (first .is, drop-drop n 4 s)
 
     pub second-bad : listIn (drop (4 + n) s) ≡ notListed → ListsAt s Bad
     second-bad e = refused-lists s (sym (second-at ∙ rw e))
 
     module _ (m : ℕ) (second : ListTaken (drop (4 + n) s) m) where
-      behind : listsIn (drop 4 s) ≡ cond (isEmpty (drop (4 + n + m) s)) (lists (first .names) (second .names)) noLists
+      behind : listsIn (drop 4 s) ≡ closed (first .names) (second .names) (drop (4 + n + m) s)
       behind = second-at ∙ rw (second .is, drop-drop m (4 + n) s)
 
-      pub bytes-behind : (4 + n + m ≡ length s → ⊥) → ListsAt s Bad
-      bytes-behind h =
-          let some : 0 < length (drop (4 + n + m) s) = simp length-drop (omega (arith, h, length-drop (4 + n) s, second .within)) in
-          refused-lists s (sym (behind ∙ rw (not-empty (drop (4 + n + m) s) some)))
+      pub not-one-behind : (4 + n + m ≡ length s - 1 → ⊥) → ListsAt s Bad
+      not-one-behind h =
+          let other : length (drop (4 + n + m) s) ≡ 1 → ⊥ = simp length-drop (λ e. omega (arith, h, e)) in
+          refused-lists s (sym (behind ∙ not-closed (first .names) (second .names) (drop (4 + n + m) s) other))
 
-      pub both-lists : 4 + n + m ≡ length s → ListsAt s (Until (4 + n))
+      pub both-lists : 4 + n + m ≡ length s - 1 → ListsAt s (Until (4 + n))
       both-lists h =
           let k : 4 + n - 4 ≡ n = omega arith in
-          let past : length s ≤ 4 + n + m = omega (arith, h) in
+          let last = last-alone s (4 + n + m) (omega (arith, h)) h in
           let e₁ : namesOf (matchingPart s (4 + n)) ≡ first .names = rw k (first .part) in
           let e₂ : namesOf (drop (4 + n) s) ≡ second .names = names-listed (drop (4 + n) s) (second .names) (drop m (drop (4 + n) s)) (second .is) in
           record {
-            same = rw (e₁, e₂) (sym (behind ∙ rw (drop-of-length-le s)));
+            same = rw (e₁, e₂) (sym (behind ∙ rw last));
             counts = λ at u. both-counted at u e₁ e₂;
           }
         where

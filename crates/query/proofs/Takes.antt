@@ -16,6 +16,7 @@ use Rattle.query.specs.declared.operator_table.OperatorRow.{OperatorRow}
 use Rattle.operator.specs.Operators.{operators, nth, operatorOf, coded, codedOf, isCarried}
 use Rattle.query.specs.operator_table.Table as Table
 use Rattle.query.specs.operator_table.Table.{table, unlisted, tableRow, Claims, claimed, agrees}
+use Rattle.model.specs.Limits.{maxAllowance}
 use Rattle.model.specs.Lists.{isEmpty}
 use Rattle.model.specs.Edits.{Names}
 use Rattle.model.specs.Query as Model
@@ -25,11 +26,11 @@ use Rattle.labels.specs.Names.{namesOf}
 use Rattle.query.specs.declared.Join.{Join}
 use Rattle.query.specs.declared.Query.{Query}
 use Rattle.query.specs.declared.Request.{Request}
-use Rattle.query.specs.declared.Request.the-variants.{Asked, BadOperator, Malformed}
+use Rattle.query.specs.declared.Request.the-variants.{Asked, BadOperator, Malformed, BadAllowance}
 use Rattle.query.specs.declared.list_ends.ListEnd.{ListEnd}
 use Rattle.query.specs.declared.list_ends.ListEnd.the-variants.{Until, Bad}
 use Rattle.query.specs.Queries.{joinOf, queryOf, matchingPart, joinPart, ListsWithin, TakenAs, InRange}
-use Rattle.query.specs.Queries.{Lists, noLists, refusedLists, lists, listsIn, listsOf, Counts, ListsAt}
+use Rattle.query.specs.Queries.{Lists, noLists, refusedLists, lists, closed, listsIn, listsOf, Counts, ListsAt, allowedOr}
 
 -- refusals
 
@@ -44,32 +45,25 @@ refused-operator s t e =
 -- the modifier by its lists
 
 module _ (o : Operator) (m j f : ℕ) where
-  asQuery : Names → Names → Model.Query
-  asQuery ns js = record {
-    operator = o;
-    matching = Model.matchingOf m;
-    join = Model.joinOf j;
-    keepNames = eqb f 1 || eqb f 3;
-    bool = leb 2 f;
-    matchingList = ns;
-    joinList = js;
-  }
+  asQuery : Names → Names → ℕ → Model.Query
+  asQuery ns js a = Model.queryOf o m j f ns js a
 
   ofLists : Lists → Model.TakenQuery
   ofLists (refusedLists k) = Model.malformed
-  ofLists (lists ns js) = cond (Model.fitting (asQuery ns js)) (Model.query (asQuery ns js)) Model.malformed
+  ofLists (lists ns js a) = cond (Model.fitting (asQuery ns js a)) (Model.allowing (asQuery ns js a)) Model.malformed
 
   by-lists : (t : List ℕ) → Model.withLists o m j f t ≡ ofLists (listsIn t)
   unfolding asQuery ofLists
   by-lists t = go (Model.listIn t)
     where
-      end : (ns js : Names) (s₂ : List ℕ) → Model.ended (asQuery ns js) s₂ ≡ ofLists (cond (isEmpty s₂) (lists ns js) noLists)
+      end : (ns js : Names) (s₂ : List ℕ) → Model.ended (asQuery ns js) s₂ ≡ ofLists (closed ns js s₂)
       end ns js [] = refl
-      end ns js (x ∷ xs) = refl
+      end ns js (a ∷ []) = refl
+      end ns js (a ∷ x ∷ xs) = refl
 
       go₂ : (ns : Names) (l : Model.Listed)
           → Model.onListed l Model.malformed (λ js s₂. Model.ended (asQuery ns js) s₂)
-          ≡ ofLists (Model.onListed l noLists (λ js s₂. cond (isEmpty s₂) (lists ns js) noLists))
+          ≡ ofLists (Model.onListed l noLists (λ js s₂. closed ns js s₂))
       go₂ ns Model.notListed = refl
       go₂ ns (Model.listed js s₂) = end ns js s₂
 
@@ -78,7 +72,7 @@ module _ (o : Operator) (m j f : ℕ) where
           (λ ns s₁. Model.onListed (Model.listIn s₁) Model.malformed (λ js s₂. Model.ended (asQuery ns js) s₂))
           ≡ ofLists
           (Model.onListed l noLists
-          (λ ns s₁. Model.onListed (Model.listIn s₁) noLists (λ js s₂. cond (isEmpty s₂) (lists ns js) noLists)))
+          (λ ns s₁. Model.onListed (Model.listIn s₁) noLists (λ js s₂. closed ns js s₂)))
       go Model.notListed = refl
       go (Model.listed ns s₁) = go₂ ns (Model.listIn s₁)
 
@@ -89,6 +83,22 @@ keep-flag (suc zero) h = refl
 keep-flag (suc (suc zero)) h = refl
 keep-flag (suc (suc (suc zero))) h = refl
 keep-flag (suc (suc (suc (suc n)))) h = absurd (omega arith)
+
+-- 02: 13, an allowance above 8
+module _ (q : Query) where
+  pub over-allowed : maxAllowance < q .allowance → BadAllowance ≡ allowedOr q
+  over-allowed h = rw (lt-leb (q .allowance) maxAllowance h)
+
+  pub not-over : q .allowance ≤ maxAllowance → Asked q ≡ allowedOr q
+  not-over h = rw (le-leb (q .allowance) maxAllowance h)
+
+told-within : (s : List ℕ) (q : Query) → ListsWithin s (q .«join_at») → (b : Bool)
+    → TakenAs s (cond b (Model.query (queryOf s q)) Model.badAllowance) (cond b (Asked q) BadAllowance)
+told-within s q w true = record {
+  answer = refl;
+  within = λ r e. rw (let z : q .«join_at» ≡ r .«join_at» = cc in z) at w;
+}
+told-within s q w false = record { answer = refl; within = λ r e. absurd (let z : _≡_ {A = ℕ} 0 1 = cc in omega arith) }
 
 -- the lists of a query, where the place of the second is known
 pub found-at : (s : List ℕ) (r : ListEnd) → ListsAt s r → (at : ℕ) → r ≡ Until at → ListsAt s (Until at)
@@ -150,17 +160,26 @@ module _ (o : Operator) (s : List ℕ) where
       pub second-count : at < length s
       second-count = counted .within .second
 
+      pub some-bytes : 1 ≤ length s
+      some-bytes = omega (arith, first-count)
+
+      pub last-byte : length s - 1 < length s
+      last-byte = omega (arith, first-count)
+
       ns : Names
       ns = namesOf (matchingPart s at)
 
       js : Names
       js = namesOf (joinPart s at)
 
+      allowance : ℕ
+      allowance = getD s (length s - 1) 0
+
       module _ (m : Matching) (hm : matchingOf m ≡ Model.matchingOf (getD s 1 0)) (j : Join) (hj : joinOf j ≡ Model.joinOf (getD s 2 0)) where
         at-parts : Model.modified o (drop 1 s)
             ≡ cond ((Model.isMatched (matchingOf m) || eqb (getD s 4 0) 0) && (Model.isGroup (joinOf j) || eqb (getD s at 0) 0))
-            (Model.query (asQuery o (getD s 1 0) (getD s 2 0) (getD s 3 0) ns js)) Model.malformed
-        unfolding ofLists asQuery ns js
+            (Model.allowing (asQuery o (getD s 1 0) (getD s 2 0) (getD s 3 0) ns js allowance)) Model.malformed
+        unfolding ofLists asQuery ns js allowance
         at-parts = by-parts ∙ rw (← found .same, counted .matching, counted .join, ← hm, ← hj)
 
         module _ (u : Bool) (hu : u ≡ Model.isMatched (matchingOf m)) (x : Bool) (hx : x ≡ (u || eqb (getD s 4 0) 0)) where
@@ -179,22 +198,14 @@ module _ (o : Operator) (s : List ℕ) where
               «keep_names» = eqb (getD s 3 0 % 2) 1;
               «as_bool» = leb 2 (getD s 3 0);
               «join_at» = at;
+              allowance = getD s (length s - 1) 0;
             }
 
-            pub asked : y ≡ true → TakenAs s (Model.modified o (drop 1 s)) (Asked code)
-            unfolding asQuery ns js
-            asked g = record {
-              answer = rw (at-parts, ← hu, ← hx, e, ← hv, ← hy, g, hm, hj, keep-flag (getD s 3 0) (range .flags));
-              within = λ q w. within-at (q .«join_at») (let z : at ≡ q .«join_at» = ap joinAt w in z);
-            }
-              where
-                joinAt : Request → ℕ
-                joinAt (Asked q) = q .«join_at»
-                joinAt BadOperator = 0
-                joinAt Malformed = 0
-
-                within-at : (k : ℕ) → at ≡ k → ListsWithin s k
-                within-at k z = rw z at (counted .within)
+            pub asked : y ≡ true → (r : Request) → r ≡ allowedOr code → TakenAs s (Model.modified o (drop 1 s)) r
+            unfolding asQuery ns js allowance
+            asked g r z =
+                rw (z, at-parts, ← hu, ← hx, e, ← hv, ← hy, g, ← hm, ← hj, ← keep-flag (getD s 3 0) (range .flags))
+                (told-within s code (counted .within) (leb (getD s (length s - 1) 0) maxAllowance))
 
 -- the operator's byte
 
@@ -262,13 +273,22 @@ pub query-taken : (s : List ℕ) (t : Model.TakenQuery) (q : Query) → TakenAs 
 query-taken s (Model.query p) q h = let e = h .answer in cc
 query-taken s Model.badOperator q h = let e = h .answer in cc
 query-taken s Model.malformed q h = let e = h .answer in cc
+query-taken s Model.badAllowance q h = let e = h .answer in cc
 
 pub operator-refused : (s : List ℕ) (t : Model.TakenQuery) → TakenAs s t BadOperator → t ≡ Model.badOperator
 operator-refused s (Model.query p) h = let e = h .answer in cc
 operator-refused s Model.badOperator h = refl
 operator-refused s Model.malformed h = let e = h .answer in let z : _≡_ {A = ℕ} 1 2 = cc in absurd (omega arith)
+operator-refused s Model.badAllowance h = let e = h .answer in let z : _≡_ {A = ℕ} 1 13 = cc in absurd (omega arith)
 
 pub query-malformed : (s : List ℕ) (t : Model.TakenQuery) → TakenAs s t Malformed → t ≡ Model.malformed
 query-malformed s (Model.query p) h = let e = h .answer in cc
 query-malformed s Model.badOperator h = let e = h .answer in let z : _≡_ {A = ℕ} 1 2 = cc in absurd (omega arith)
 query-malformed s Model.malformed h = refl
+query-malformed s Model.badAllowance h = let e = h .answer in let z : _≡_ {A = ℕ} 2 13 = cc in absurd (omega arith)
+
+pub allowance-refused : (s : List ℕ) (t : Model.TakenQuery) → TakenAs s t BadAllowance → t ≡ Model.badAllowance
+allowance-refused s (Model.query p) h = let e = h .answer in cc
+allowance-refused s Model.badOperator h = let e = h .answer in let z : _≡_ {A = ℕ} 1 13 = cc in absurd (omega arith)
+allowance-refused s Model.malformed h = let e = h .answer in let z : _≡_ {A = ℕ} 2 13 = cc in absurd (omega arith)
+allowance-refused s Model.badAllowance h = refl

@@ -14,7 +14,7 @@ ghost use lib.ListN.{length, drop};
 ghost use Rattle.model.specs.Query as Model;
 ghost use Rattle.query.specs.operator_table.Table.{tableRow};
 ghost use Rattle.labels.specs.Matchings.{matchingOf};
-ghost use Rattle.query.specs.Queries.{joinOf, InRange, ListsAt, TakenAs};
+ghost use Rattle.query.specs.Queries.{joinOf, InRange, ListsAt, TakenAs, allowedOr};
 ghost use Rattle.query.specs.declared.list_ends.ListEnd.the-variants as ListEnd;
 
 // The many side of a join is the left one for `GroupLeft`.
@@ -24,7 +24,7 @@ pub enum Join {
     GroupRight,
 }
 
-// A query by value. Its matching list is the bytes from 4 to `join_at`, its join list those from there on.
+// A query by value. Its matching list is the bytes from 4 to `join_at`; its join list begins there, the allowance behind it.
 pub struct Query {
     pub operator: Operator,
     pub matching: Matching,
@@ -32,15 +32,17 @@ pub struct Query {
     pub keep_names: bool,
     pub as_bool: bool,
     pub join_at: usize,
+    pub allowance: usize,
 }
 
 pub enum Request {
     Asked(Query),
     BadOperator,
     Malformed,
+    BadAllowance,
 }
 
-// Where the join list stands, if the query's bytes from 4 on are two lists.
+// Where the join list stands, if the query's bytes from 4 on are two lists and one byte more.
 fn join_place(s: &[u8]) -> ListEnd
     requires { ⌜ 4 ≤ length (now s) ⌝ }
     ensures { λ r. ⌜ ListsAt (now (s .entry)) r ⌝ }
@@ -52,7 +54,7 @@ fn join_place(s: &[u8]) -> ListEnd
     let ListEnd::Until(m) = list_ends::list_end(&s[at..]) else {
         return ListEnd::Bad;
     };
-    if at + m == s.len() {
+    if at + m == s.len() - 1 {
         ListEnd::Until(at)
     } else {
         ListEnd::Bad
@@ -106,6 +108,16 @@ fn may_stand(used: bool, count: u8) -> bool
     if used { true } else { count == 0 }
 }
 
+// The query, if it allows no more than a merge may.
+fn allowed(q: Query) -> Request
+    ensures { λ r. ⌜ r ≡ allowedOr q ⌝ }
+{
+    if Operator::MAX_ALLOWANCE < q.allowance {
+        return Request::BadAllowance;
+    }
+    Request::Asked(q)
+}
+
 // The query whose join list stands at a place, if each list that is not used is empty.
 fn take_lists(s: &[u8], operator: Operator, at: usize) -> Request
     requires { ⌜ InRange (now s) ⌝ }
@@ -117,13 +129,14 @@ fn take_lists(s: &[u8], operator: Operator, at: usize) -> Request
     let flags = s[3];
     if may_stand(is_matched(matching), s[4]) {
         if may_stand(is_group(join), s[at]) {
-            Request::Asked(Query {
+            allowed(Query {
                 operator,
                 matching,
                 join,
                 keep_names: flags % 2 == 1,
                 as_bool: flags >= 2,
                 join_at: at,
+                allowance: s[s.len() - 1] as usize,
             })
         } else {
             Request::Malformed

@@ -1,8 +1,7 @@
-// What a query says of its answer: whether the names of its series are cleared, and how many places a merge may overlap.
+// What a query says of the names of its answer's series.
 use query::Query;
 ghost use mathlib.Core.Path.{_≡_};
 ghost use Rattle.model.specs.Query.{resets};
-ghost use Rattle.query_rules.specs.Allowances.{allowedBy};
 
 // Whether the names of an answer's series are cleared.
 pub fn should_reset_metric_group(q: Query) -> bool
@@ -20,11 +19,4 @@ pub fn should_reset_metric_group(q: Query) -> bool
     } else {
         true
     }
-}
-
-// The number of overlapping places that the merges of a query allow: the same for every query.
-pub fn allowed_overlaps(q: Query) -> usize
-    ensures { λ r. ⌜ r ≡ allowedBy q ⌝ }
-{
-    2
 }

@@ -7,7 +7,7 @@ use lib.ListN.{getD}
 use Rattle.operator.specs.Kinds.{Kind, arithmetic, comparison, setRule, fallback, notCarried, SetRule, whereFound, whereNone, filled}
 use Rattle.model.specs.Lists.{isEmpty}
 use Rattle.model.specs.Reading.{missing, noReading, scalarOp}
-use Rattle.model.specs.Row.{onlyMissing, zipWith, twoOverlaps}
+use Rattle.model.specs.Row.{onlyMissing, zipWith}
 use Rattle.model.specs.Labels.{Labels, nameLabel}
 use Rattle.model.specs.Edits.{Names, clearNameIf, removeTagsOn, removeTagsIgnoring, setTags}
 use Rattle.model.specs.Query.{Query, shouldResetMetricGroup, Matching, all, on, ignoring, Join, oneToOne, group, Side, left, right}
@@ -56,13 +56,10 @@ joinRows right op m o = zipWith op o m
 unfoldable pub joinWork : Query → Side → Series → Series → Series
 joinWork q many m c = record { labels = c .labels; row = joinRows many (scalarOp (q .operator) (q .bool)) (m .row) (c .row) }
 
--- the overlapping places that a merge allows, one-to-one and in joins
-unfoldable pub allowedOverlaps : Query → ℕ
-allowedOverlaps q = twoOverlaps
-
+-- 02: One-to-one and joins pass the allowance down.
 abbrev pub matchedRule : Query → Join → Rule
-matchedRule q oneToOne = plain (Rules.oneToOne (allowedOverlaps q) (paired q))
-matchedRule q (group many) = joined (allowedOverlaps q) (joinedPair q) (joinWork q many) many
+matchedRule q oneToOne = plain (Rules.oneToOne (q .allowance) (paired q))
+matchedRule q (group many) = joined (q .allowance) (joinedPair q) (joinWork q many) many
 
 -- readings of set rules
 

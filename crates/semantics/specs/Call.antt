@@ -6,7 +6,7 @@ use lib.Dec.{ltb, eqb}
 use lib.ListN.{length}
 use Rattle.operator.specs.Kinds.{kindOf}
 use Rattle.model.specs.Limits.{maxSeries, maxTags, maxLabelBytes}
-use Rattle.model.specs.Query.{Query, Side, left, right, TakenQuery, query, badOperator, malformed, takeQuery}
+use Rattle.model.specs.Query.{Query, Side, left, right, TakenQuery, query, badOperator, malformed, badAllowance, takeQuery}
 use Rattle.model.specs.Vector.{Series, Shape, Vector, TakenVector, vector, faulty, takeVector, labelBytes, readingsOf}
 use Rattle.semantics.specs.Places.{Rank, placed}
 use Rattle.semantics.specs.Events.{Ranked, Duplicate, Verdict, answer, duplicate, run}
@@ -74,6 +74,7 @@ abbrev pub onQuery : TakenQuery → (Query → Outcome) → Outcome
 onQuery (query q) f = f q
 onQuery badOperator f = refused 1 0 0
 onQuery malformed f = refused 2 0 0
+onQuery badAllowance f = refused 13 0 0
 
 -- 01: Taking a query; taking a vector, left before right; running.
 -- Query, left label part, left readings, right label part, right readings, lengths of the lent label and readings parts.

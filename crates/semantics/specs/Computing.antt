@@ -2,9 +2,9 @@
 -- model's names. Assumes nothing.
 use Rattle.model.specs.Computing as Model
 use Rattle.semantics.specs.Rules.{mergedInto, sameEdited, groups, hasReadings}
-use Rattle.semantics.specs.Binop.{adjustBinaryOpTags, paired, joinedLabels, joinWork, allowedOverlaps, firstReading, someReading, met}
+use Rattle.semantics.specs.Binop.{adjustBinaryOpTags, paired, joinedLabels, joinWork, firstReading, someReading, met}
 use Rattle.semantics.specs.Call.{verdict, fit, running, call}
 
 unfoldable pub computing : Unit {0}
-unfolding Model.computing mergedInto sameEdited groups hasReadings adjustBinaryOpTags paired joinedLabels joinWork allowedOverlaps firstReading someReading met verdict fit running call
+unfolding Model.computing mergedInto sameEdited groups hasReadings adjustBinaryOpTags paired joinedLabels joinWork firstReading someReading met verdict fit running call
 computing = tt

@@ -2,4 +2,5 @@ pub mod Notation
 pub mod Refusals
 pub mod OneToOne
 pub mod Joins
+pub mod Allowances
 pub mod SetRules

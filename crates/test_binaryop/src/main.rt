@@ -1,5 +1,6 @@
 // Runs cases from standard input and prints what the operators and merging give.
-// A case: what to run (1 byte), operator or allowance (1), bool (1), one spare byte, the lengths of two rows (2 each), the rows.
+// A case: what to run (1 byte), operator or allowance (1), bool (1), one spare byte, the lengths of two rows (2 each, at most
+// 2,048), the rows.
 ghost use mathlib.Core.Path.{_≡_};
 ghost use Prim.Native.Nat.{_*_, _≤_};
 ghost use lib.ListN.{length};
@@ -17,12 +18,12 @@ fn size(b: u8) -> usize
 }
 
 // A row that begins with n readings.
-fn load(s: &[u8], n: usize) -> [u64; 1024]
-    requires { ⌜ n ≤ 1024 ⌝ }
+fn load(s: &[u8], n: usize) -> [u64; 2048]
+    requires { ⌜ n ≤ 2048 ⌝ }
     requires { ⌜ n * 8 ≤ length (now s) ⌝ }
-    ensures { λ r. ⌜ 1024 ≡ length r ⌝ }
+    ensures { λ r. ⌜ 2048 ≡ length r ⌝ }
 {
-    let mut row = [0u64; 1024];
+    let mut row = [0u64; 2048];
     let mut i: usize = 0;
     while i < n {
         row[i] = reading_at(s, i * 8);
@@ -61,11 +62,12 @@ fn run_merge(allowance: usize, dst: &mut [u64], src: &[u64]) {
         Merged::Done => print_row(b"done", dst),
         Merged::Overlapping => print_row(b"overlapping", dst),
         Merged::Unequal => print_row(b"refused 6", dst),
+        Merged::BadAllowance => print_row(b"refused 13", dst),
     }
 }
 
 fn run_loaded(what: u8, op: u8, bool: bool, left: &mut [u64], n: usize, right: &[u64], m: usize)
-    requires { ⌜ (n ≤ length (now left)) × (n ≤ 1024) ⌝ }
+    requires { ⌜ (n ≤ length (now left)) × (n ≤ 2048) ⌝ }
     requires { ⌜ m ≤ length (now right) ⌝ }
 {
     if what == 1 {
@@ -73,7 +75,7 @@ fn run_loaded(what: u8, op: u8, bool: bool, left: &mut [u64], n: usize, right: &
         return;
     }
     if n == m {
-        let mut out = [0u64; 1024];
+        let mut out = [0u64; 2048];
         run_operator(op, bool, &left[..n], &right[..m], &mut out[..n]);
     }
 }
@@ -87,10 +89,10 @@ fn run_case(s: &[u8]) -> usize
     }
     let n = number_at(s, 4);
     let m = number_at(s, 6);
-    if 1024 < n {
+    if 2048 < n {
         return 0;
     }
-    if 1024 < m {
+    if 2048 < m {
         return 0;
     }
     let middle = 8 + n * 8;

@@ -27,7 +27,7 @@ fn print_join(j: Join) {
     }
 }
 
-// Comparison, logical, matching, join, flags, whether the name is cleared, the join list's place.
+// Comparison, logical, matching, join, flags, whether the name is cleared, the join list's place, the allowance.
 fn print_query(q: Query) {
     print(b"asked");
     let operator = q.operator;
@@ -41,6 +41,7 @@ fn print_query(q: Query) {
     print_flag(q.as_bool);
     print_flag(query_rules::should_reset_metric_group(q));
     print_number(q.join_at);
+    print_number(q.allowance);
     print(b"\n");
 }
 
@@ -49,6 +50,7 @@ fn take(s: &[u8]) {
         Request::Asked(q) => print_query(q),
         Request::BadOperator => print(b"refused 1 0 0\n"),
         Request::Malformed => print(b"refused 2 0 0\n"),
+        Request::BadAllowance => print(b"refused 13 0 0\n"),
     }
 }
 

@@ -17,7 +17,7 @@ use Rattle.model.specs.Laws.Lists.{keep-swap}
 use Rattle.semantics.specs.Places.{Place, Placed, placed, Rank}
 use Rattle.semantics.specs.Events.{Event, good, bad, Ranked, Rule, Verdict, answer, duplicate, ofKey, producedBy, emission, events, settle}
 use Rattle.semantics.specs.Rules.{other, ofSide, pairs, groups, hasReadings}
-use Rattle.semantics.specs.Binop.{joinedPair, joinRows, joinWork, allowedOverlaps, matchedRule, Seen, ruleOf, look}
+use Rattle.semantics.specs.Binop.{joinedPair, joinRows, joinWork, matchedRule, Seen, ruleOf, look}
 use Rattle.semantics.specs.Call.{verdict, concluded, fit}
 use Rattle.semantics.specs.Laws.Places.{on-same}
 use Rattle.theorems.specs.Claims.Outcomes.{seriesIn}
@@ -33,7 +33,7 @@ use Rattle.theorems.specs.Laws.Groups.{EventOf, served, failed, group-ev
 -- what a many-side series of a join emits
 
 abbrev gives : Query → Side → Placed → List Placed → List (Ranked Rank Event)
-gives q many s ms = producedBy (s .place) (groups (allowedOverlaps q) (joinWork q many (s .series)) (pairs (joinedPair q) (s .series) ms))
+gives q many s ms = producedBy (s .place) (groups (q .allowance) (joinWork q many (s .series)) (pairs (joinedPair q) (s .series) ms))
 
 record Emits (q : Query) (many : Side) (k : Kind) (c : Seen) (xs : List Placed) (s : Placed) : Type 0 where
   member : In s xs
@@ -41,7 +41,7 @@ record Emits (q : Query) (many : Side) (k : Kind) (c : Seen) (xs : List Placed) 
 
 module _ (q : Query) (many : Side) (grouped : q .join ≡ group many) where
   rule-of-many : (s : Placed) (ys : List Placed) → s .place .side ≡ many
-      → matchedRule q (q .join) s ys ≡ groups (allowedOverlaps q) (joinWork q many (s .series)) (pairs (joinedPair q) (s .series) (ofSide (other many) ys))
+      → matchedRule q (q .join) s ys ≡ groups (q .allowance) (joinWork q many (s .series)) (pairs (joinedPair q) (s .series) (ofSide (other many) ys))
   rule-of-many s ys e = rw (grouped, e, on-same many)
 
   emits : (k : Kind) → joinsSets k ≡ false → runs k ≡ true → (c : Seen) (xs : List Placed) (s : Placed) → s .place .side ≡ many
@@ -53,7 +53,7 @@ module _ (q : Query) (many : Side) (grouped : q .join ≡ group many) where
         is = ap (producedBy (s .place))
             (ap (λ t. cond t (matchedRule q (q .join) s (keep (λ x. hasReadings (x .series)) (ofKey q (s .series .labels) xs))) []) (m .passes)
             ∙ rule-of-many s (keep (λ x. hasReadings (x .series)) (ofKey q (s .series .labels) xs)) e
-            ∙ ap (λ ys. groups (allowedOverlaps q) (joinWork q many (s .series)) (pairs (joinedPair q) (s .series) (ofSide (other many) ys)))
+            ∙ ap (λ ys. groups (q .allowance) (joinWork q many (s .series)) (pairs (joinedPair q) (s .series) (ofSide (other many) ys)))
             (keep-swap _ _ xs));
       }
   emits (comparison t) j r c xs s e h = record { member = h; is = ap (producedBy (s .place)) (rule-of-many s (ofKey q (s .series .labels) xs) e) }
@@ -67,24 +67,24 @@ module _ (q : Query) (many : Side) (grouped : q .join ≡ group many) where
   emits-same (arithmetic a) j r c c′ xs xs′ o s e = ap (λ l. producedBy (s .place) (cond (hasReadings (s .series)) l [])) (one xs ∙ ap rows o ∙ sym (one xs′))
     where
       rows : List Placed → List (Ranked Place Event)
-      rows ys = groups (allowedOverlaps q) (joinWork q many (s .series))
+      rows ys = groups (q .allowance) (joinWork q many (s .series))
           (pairs (joinedPair q) (s .series) (keep (λ x. hasReadings (x .series)) (ofKey q (s .series .labels) ys)))
 
       one : (ys : List Placed) → matchedRule q (q .join) s (keep (λ x. hasReadings (x .series)) (ofKey q (s .series .labels) ys))
           ≡ rows (ofSide (other many) ys)
       one ys =
           rule-of-many s (keep (λ x. hasReadings (x .series)) (ofKey q (s .series .labels) ys)) e
-          ∙ ap (λ l. groups (allowedOverlaps q) (joinWork q many (s .series)) (pairs (joinedPair q) (s .series) l))
+          ∙ ap (λ l. groups (q .allowance) (joinWork q many (s .series)) (pairs (joinedPair q) (s .series) l))
           (keep-swap _ _ (ofKey q (s .series .labels) ys) ∙ ap (keep (λ x. hasReadings (x .series))) (keep-swap _ _ ys))
   emits-same (comparison t) j r c c′ xs xs′ o s e = ap (producedBy (s .place)) (one xs ∙ ap rows o ∙ sym (one xs′))
     where
       rows : List Placed → List (Ranked Place Event)
-      rows ys = groups (allowedOverlaps q) (joinWork q many (s .series)) (pairs (joinedPair q) (s .series) (ofKey q (s .series .labels) ys))
+      rows ys = groups (q .allowance) (joinWork q many (s .series)) (pairs (joinedPair q) (s .series) (ofKey q (s .series .labels) ys))
 
       one : (ys : List Placed) → matchedRule q (q .join) s (ofKey q (s .series .labels) ys) ≡ rows (ofSide (other many) ys)
       one ys =
           rule-of-many s (ofKey q (s .series .labels) ys) e
-          ∙ ap (λ l. groups (allowedOverlaps q) (joinWork q many (s .series)) (pairs (joinedPair q) (s .series) l)) (keep-swap _ _ ys)
+          ∙ ap (λ l. groups (q .allowance) (joinWork q many (s .series)) (pairs (joinedPair q) (s .series) l)) (keep-swap _ _ ys)
   emits-same (setRule k) j r c c′ xs xs′ o s e = absurd (false≢true (sym j))
   emits-same (fallback k) j r c c′ xs xs′ o s e = absurd (false≢true (sym j))
   emits-same notCarried j r c c′ xs xs′ o s e = absurd (false≢true r)
@@ -127,7 +127,7 @@ module _ (q : Query) (many : Side) (j : IsJoin q many) (ls rs : List Series) (l 
   emission-is : Emits q many k (look k ls rs) xs s
   emission-is = emits q many (j .grouped) k (j .scalar) (j .carried) (look k ls rs) xs s (m .side) (m .stands)
 
-  in-events : (x : Ranked Place Event) → In x (groups (allowedOverlaps q) (joinWork q many (s .series)) (pairs (joinedPair q) (s .series) ms))
+  in-events : (x : Ranked Place Event) → In x (groups (q .allowance) (joinWork q many (s .series)) (pairs (joinedPair q) (s .series) ms))
       → In (record { rank = record { producer = s .place; earliest = x .rank }; what = x .what }) (events q rule xs)
   in-events x h =
       in-gather (emission q rule xs) xs (emission-is .member)
@@ -140,7 +140,7 @@ module _ (q : Query) (many : Side) (j : IsJoin q many) (ls rs : List Series) (l 
   served-by : (o : Placed) → In o ms → Served q many (joinedSeries q ls rs) s o l
   served-by o h =
       let pair : Placed → Placed = λ x. record { place = x .place; series = joinedPair q (s .series) (x .series) } in
-      let g = group-event (allowedOverlaps q) (joinWork q many (s .series)) (pairs (joinedPair q) (s .series) ms) (pair o) (in-map pair h) in
+      let g = group-event (q .allowance) (joinWork q many (s .series)) (pairs (joinedPair q) (s .series) ms) (pair o) (in-map pair h) in
       let f = from-map pair (g .earliest) ms (g .member) in
       let v = answer-given (joinWork q many (s .series)) (g .earliest .series) (record { producer = s .place; earliest = g .earliest .place })
       (g .event) (events q rule xs) l (g .sort)
@@ -181,8 +181,8 @@ pub single-match-served : SingleMatchServed
 single-match-served q many j ls rs l e s m o h =
     let c : Placed = record { place = o .place; series = joinedPair q (s .series) (o .series) } in
     let i = in-events q many j ls rs l e s m (record { rank = o .place; what = good (joinWork q many (s .series) (c .series)) })
-    (rw (ap (λ (ms : List Placed). groups (allowedOverlaps q) (joinWork q many (s .series)) (pairs (joinedPair q) (s .series) ms)) h
-    ∙ grouped-one (allowedOverlaps q) (joinWork q many (s .series)) c) (List·Memᴰ·head refl)) in
+    (rw (ap (λ (ms : List Placed). groups (q .allowance) (joinWork q many (s .series)) (pairs (joinedPair q) (s .series) ms)) h
+    ∙ grouped-one (q .allowance) (joinWork q many (s .series)) c) (List·Memᴰ·head refl)) in
     let es = events q (rule q many j ls rs l e s m) (placed ls rs) in
     let a = answered es l (settled-events q many j ls rs l e s m) in
     record {

@@ -5,7 +5,7 @@ use mathlib.Core.Bool.{Bool, true, false, cond}
 use mathlib.Core.List.{List}
 use lib.Dec.{eqb}
 use borrow.Author.Tests.{eq-eqb, eqb-true}
-use Rattle.model.specs.Query.{Query, TakenQuery, query, badOperator, malformed, takeQuery}
+use Rattle.model.specs.Query.{Query, TakenQuery, query, badOperator, malformed, badAllowance, takeQuery}
 use Rattle.model.specs.Vector.{Series, Shape, Vector, TakenVector, vector, faulty, takeVector}
 use Rattle.model.specs.Laws.Booleans.{both-of}
 use Rattle.model.specs.Laws.Faults.{FaultNumber, three-to-five, eleven, fault-of}
@@ -13,7 +13,7 @@ use Rattle.semantics.specs.Places.{Rank}
 use Rattle.semantics.specs.Events.{Ranked, Verdict, answer, duplicate}
 use Rattle.semantics.specs.Call.{Outcome, refused, call, running, concluded, verdict, fit, overLimits, overRoom, samePoints}
 use Rattle.semantics.specs.Call.{sameGrid, onVector, onQuery}
-use Rattle.theorems.specs.Claims.Outcomes.{Taken, written, seriesIn, OutcomeOf, number-1, number-2, left-3-to-5}
+use Rattle.theorems.specs.Claims.Outcomes.{Taken, written, seriesIn, OutcomeOf, number-1, number-2, number-13, left-3-to-5}
 use Rattle.theorems.specs.Claims.Outcomes.{right-3-to-5, left-11, right-11, number-6, number-12, number-7-or-8}
 use Rattle.theorems.specs.Claims.Outcomes.{number-9, number-10, vector-answered, EveryOutcome, NoOther}
 
@@ -93,6 +93,7 @@ module _ (s ll lr rl rr : List ℕ) (a b : ℕ) where
   on-query (query q) e = on-left q e (takeVector 0 ll lr) refl
   on-query badOperator e = number-1 e
   on-query malformed e = number-2 e
+  on-query badAllowance e = number-13 e
 
 pub every-outcome : EveryOutcome
 unfolding call
@@ -121,6 +122,7 @@ pub no-other : NoOther
 unfolding call running fit
 no-other s ll lr rl rr a b o (number-1 e) = rw e
 no-other s ll lr rl rr a b o (number-2 e) = rw e
+no-other s ll lr rl rr a b o (number-13 e) = rw e
 no-other s ll lr rl rr a b o (left-3-to-5 q e n i h k f) = rw (e, f)
 no-other s ll lr rl rr a b o (right-3-to-5 q e l g n i h k f) = rw (e, g, f)
 no-other s ll lr rl rr a b o (left-11 q e f) = rw (e, f)

@@ -21,7 +21,7 @@ use Rattle.semantics.specs.Call.{Outcome, refused, call, concluded, fit}
 use Rattle.theorems.specs.Claims.Dealing.{Rising, Renumber, movedRanked, movedRank, movedVerdict, Deal, secondPile, pick, pile, wholePlaces}
 use Rattle.theorems.specs.Claims.Dealing.{weave, mergedVerdict}
 use Rattle.theorems.specs.Claims.Partition.{isRefused, refusedOtherwise, Splits, Partition, Sides, HasSides}
-use Rattle.theorems.specs.Claims.Outcomes.{Taken, written, seriesIn, OutcomeOf, number-1, number-2, left-3-to-5}
+use Rattle.theorems.specs.Claims.Outcomes.{Taken, written, seriesIn, OutcomeOf, number-1, number-2, number-13, left-3-to-5}
 use Rattle.theorems.specs.Claims.Outcomes.{right-3-to-5, left-11, right-11, number-6, number-12, number-7-or-8}
 use Rattle.theorems.specs.Claims.Outcomes.{number-9, number-10, vector-answered}
 use Rattle.theorems.specs.Outcomes.{every-outcome, taken-call}
@@ -190,6 +190,7 @@ otherwise n i j h e = never-so (sym (rw (unequal n 7 (omega (arith, h)), unequal
 sides : (s ll lr rl rr : List ℕ) (a b : ℕ) (o : Outcome) → OutcomeOf s ll lr rl rr a b o → refusedOtherwise o ≡ false → Sides s ll lr rl rr
 sides s ll lr rl rr a b o (number-1 e) r = never-so r
 sides s ll lr rl rr a b o (number-2 e) r = never-so r
+sides s ll lr rl rr a b o (number-13 e) r = never-so r
 sides s ll lr rl rr a b o (left-3-to-5 q e n i h k f) r = otherwise n 0 i (omega (arith, k)) r
 sides s ll lr rl rr a b o (right-3-to-5 q e l g n i h k f) r = otherwise n 1 i (omega (arith, k)) r
 sides s ll lr rl rr a b o (left-11 q e f) r = never-so r

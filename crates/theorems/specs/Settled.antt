@@ -3,7 +3,7 @@ use Prim.Native.Nat.{ℕ}
 use mathlib.Core.Path.{_≡_, refl}
 use mathlib.Core.Option.{Option, none, some}
 use mathlib.Core.List.{List, [], _∷_, map}
-use Rattle.model.specs.Row.{merged, twoOverlaps}
+use Rattle.model.specs.Row.{merged}
 use Rattle.model.specs.Vector.{Series}
 use Rattle.semantics.specs.Call.{Outcome}
 use Rattle.semantics.specs.Computing.{computing}
@@ -23,8 +23,9 @@ abbrev merging : Option (List ℕ) → Answer
 merging none = overlapping
 merging (some r) = row r
 
+-- 02: 01's examples have 2.
 abbrev pub answerTo : Question → Answer
-answerTo (merge d s) = merging (merged twoOverlaps d s)
+answerTo (merge d s) = merging (merged 2 d s)
 answerTo (asked q p ls rs) = outcome (on q p ls rs)
 
 pub record Example : Type 0 where

@@ -31,7 +31,7 @@ use Rattle.model.specs.Laws.Vector.{take-valid, readings-length, labels-bytes, 
 use Rattle.semantics.specs.Places.{Placed, numbered, placed, Rank}
 use Rattle.semantics.specs.Events.{Ranked, Verdict, answer, duplicate}
 use Rattle.semantics.specs.Rules.{withRow, mergedInto}
-use Rattle.semantics.specs.Binop.{editedBy, adjustBinaryOpTags, paired, skipList, joinedLabels, joinedPair, joinRows, joinWork, allowedOverlaps}
+use Rattle.semantics.specs.Binop.{editedBy, adjustBinaryOpTags, paired, skipList, joinedLabels, joinedPair, joinRows, joinWork}
 use Rattle.semantics.specs.Binop.{matchedRule, Found, firstReading, someReading, filledFrom, setReading, pointwise, unlessOnlyMissing, staying, met}
 use Rattle.semantics.specs.Binop.{alone, adds, Seen, unmatched, scalarSide, isBare, look, ruleOf}
 use Rattle.semantics.specs.Call.{refused, answered, concluded, verdict, fit, overTags}
@@ -175,9 +175,9 @@ module _ (p : ℕ) where
   worked-proper q many b c h k = record { labels = k .labels; row = rows-good many (q .operator) (q .bool) (b .row) (c .row) (h .row) (k .row) }
 
   matched-keeps : (q : Query) (j : Join) → Keeps (Proper p) (matchedRule q j)
-  matched-keeps q oneToOne = one-to-one-keeps (Proper p) (allowedOverlaps q) (merge-sure (allowedOverlaps q)) (paired q) (paired-proper q)
+  matched-keeps q oneToOne = one-to-one-keeps (Proper p) (q .allowance) (merge-sure (q .allowance)) (paired q) (paired-proper q)
   matched-keeps q (group many) =
-      joined-keeps (Proper p) (allowedOverlaps q) (merge-sure (allowedOverlaps q)) (joinedPair q) (joined-proper q) (joinWork q many)
+      joined-keeps (Proper p) (q .allowance) (merge-sure (q .allowance)) (joinedPair q) (joined-proper q) (joinWork q many)
       (worked-proper q many) many
 
   FoundWord : Option Found → Type 0

@@ -23,9 +23,9 @@ texts = tt
 part : List ℕ → List ℕ
 part x = length x ∷ 0 ∷ 0 ∷ 0 ∷ x
 
--- `/`, no modifier
+-- `/`, no modifier, allowance 2
 over : List ℕ
-over = 4 ∷ 0 ∷ 0 ∷ 0 ∷ 0 ∷ 0 ∷ []
+over = 4 ∷ 0 ∷ 0 ∷ 0 ∷ 0 ∷ 0 ∷ 2 ∷ []
 
 -- fed{press="A"} [10,N,6]
 fed : List ℕ

@@ -1,7 +1,7 @@
 //! Labelled vector operators over series with gaps. Every call ends, allocates nothing, and gives either a complete valid
 //! vector or one refusal. docs/SCOPE.md of the project says what a query, a label part and a refusal are.
 
-/// A refusal: its number, 1 to 12, and its two fields.
+/// A refusal: its number, 1 to 13, and its two fields.
 #[derive(Clone, Copy, Debug, PartialEq, Eq)]
 pub struct Refusal {
     pub number: u64,
@@ -52,6 +52,9 @@ extern "C" {
 /// Runs a query over two vectors into the two lent output parts. A refusal leaves both as they were; an answer changes only
 /// its own length at the start of each.
 ///
+/// The query's last byte is its allowance, 0 to 8: at how many places a row that is merged may overlap the row merged so far. One
+/// above 8 is refused with 13.
+///
 /// `/` without modifier, of fed{press="A"} [10, missing, 6] and waste{press="A"} [2, 1, 3]:
 ///
 /// ```
@@ -64,7 +67,8 @@ extern "C" {
 /// let fed = Side { labels: fed, readings: &bits([10.0, f64::NAN, 6.0]) };
 /// let waste = Side { labels: waste, readings: &bits([2.0, 1.0, 3.0]) };
 /// let (mut labels, mut readings) = ([0; 64], [0; 8]);
-/// let answer = exec_binop(&[4, 0, 0, 0, 0, 0], fed, waste, &mut labels, &mut readings);
+/// // the operator, no modifiers, two empty lists, the allowance
+/// let answer = exec_binop(&[4, 0, 0, 0, 0, 0, 2], fed, waste, &mut labels, &mut readings);
 /// assert_eq!(answer, Ok(Answer { series: 1, points: 3, start: 0, step: 3_600_000, label_bytes: 10 }));
 /// assert_eq!(&labels[..10], b"\0\x01\x05press\x01A");
 /// assert_eq!(readings[..3], [5f64.to_bits(), 0x7ff8_0000_0000_0000, 2f64.to_bits()]);

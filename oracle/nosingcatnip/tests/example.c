@@ -1,5 +1,6 @@
 /* `/` of fed{press="A"} [10, missing, 6] and waste{press="A"} [2, 1, 3], an hour apart, through the header; then the same with the
- * right side a millisecond later, which is refused with 12. Ends with 0 where all is as it should be. */
+ * right side a millisecond later, which is refused with 12, and with an allowance of 9, which is refused with 13 before that. Ends
+ * with 0 where all is as it should be. */
 #include <math.h>
 #include <string.h>
 
@@ -15,11 +16,12 @@ static uint64_t bits(double x) {
 }
 
 int main(void) {
-    const uint8_t query[] = {4, 0, 0, 0, 0, 0};
+    uint8_t query[] = {4, 0, 0, 0, 0, 0, 2};
     const uint64_t left[] = {bits(10), bits(NAN), bits(6)}, right[] = {bits(2), bits(1), bits(3)};
     uint8_t labels[64];
     uint64_t out[8], result[NOSINGCATNIP_RESULT];
-    const uint64_t answered[] = {0, 0, 0, 1, 3, 0, 3600000, 10}, refused[] = {12, 0, 0, 0, 0, 0, 0, 0};
+    const uint64_t answered[] = {0, 0, 0, 1, 3, 0, 3600000, 10};
+    uint64_t refused[] = {12, 0, 0, 0, 0, 0, 0, 0};
     const uint64_t rows[] = {bits(5), 0x7ff8000000000000, bits(2)};
     memset(labels, 187, sizeof labels);
     /* The arrays end with the string's 0, which is no part of the label part. */
@@ -35,5 +37,10 @@ int main(void) {
     nosingcatnip_exec_binop(query, sizeof query, fed, sizeof fed - 1, left, 3, waste, sizeof waste - 1, right, 3, labels,
                             sizeof labels, out, 8, result);
     if (memcmp(result, refused, sizeof result) != 0 || result[NOSINGCATNIP_NUMBER] != 12) return 4;
-    return labels[0] == 187 ? 0 : 5;
+    query[6] = 9;
+    refused[NOSINGCATNIP_NUMBER] = 13;
+    nosingcatnip_exec_binop(query, sizeof query, fed, sizeof fed - 1, left, 3, waste, sizeof waste - 1, right, 3, labels,
+                            sizeof labels, out, 8, result);
+    if (memcmp(result, refused, sizeof result) != 0) return 5;
+    return labels[0] == 187 ? 0 : 6;
 }

@@ -30,7 +30,7 @@ fn sum(left: &[u8], right: &[u8]) -> Result<Answer, Refusal> {
     let ones = [1f64.to_bits(); 2];
     let (mut labels, mut readings) = ([0; 8], [0; 8]);
     exec_binop(
-        &[0; 6],
+        &[0, 0, 0, 0, 0, 0, 2],
         Side { labels: left, readings: &ones },
         Side { labels: right, readings: &ones },
         &mut labels,
@@ -56,5 +56,31 @@ fn grids_are_refused() {
     }
     for (start, step) in [(1, 1), (0, 2)] {
         assert_eq!(sum(&good, &bare(2, start, step)), refused(12, 0));
+    }
+}
+
+/// The sum of two series of one key that share so many of nine points, and one, under this allowance.
+fn merged(shared: usize, allowance: u8) -> Result<Answer, Refusal> {
+    let (one, nan) = (1f64.to_bits(), f64::NAN.to_bits());
+    let two = [vec![one; 9], vec![one; shared], vec![nan; 9 - shared]].concat();
+    let (mut labels, mut readings) = ([0; 8], [0; 16]);
+    exec_binop(
+        &[0, 0, 0, 0, 0, 0, allowance],
+        Side { labels: &[&[2, 0, 9, 0, 4, 0][..], &[0; 8], &[1, 0, 0, 0], &[0; 4]].concat(), readings: &two },
+        Side { labels: &bare(9, 0, 1), readings: &[one; 9] },
+        &mut labels,
+        &mut readings,
+    )
+}
+
+#[test]
+fn as_many_places_overlap_as_are_allowed() {
+    for allowance in 0..=8 {
+        let shared = usize::from(allowance);
+        assert_eq!(merged(shared, allowance), Ok(Answer { series: 1, points: 9, start: 0, step: 1, label_bytes: 2 }));
+        assert_eq!(merged(shared + 1, allowance), Err(Refusal { number: 7, fields: [1, 0] }));
+    }
+    for allowance in 9..=255 {
+        assert_eq!(merged(1, allowance), Err(Refusal { number: 13, fields: [0, 0] }));
     }
 }

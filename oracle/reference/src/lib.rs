@@ -10,7 +10,7 @@ mod vecop;
 mod vector;
 
 pub use label::{Labels, Tag, NAME};
-pub use query::{Join, Matching, Operator, Query};
+pub use query::{take_query, Join, Matching, Operator, Query};
 pub use reading::{combine, is_missing, merge, Merged, MISSING};
 pub use rules::{run, Event, What};
 pub use vecop::{frame, vecop};
@@ -50,6 +50,10 @@ pub const MAX_LABEL_BYTES: usize = 65_535;
 pub const MAX_START: u64 = 1 << 52;
 pub const MAX_STEP: u32 = 86_400_000;
 
+/// 02: "the number of overlapping places a merge allows, 0 to 8; 01's examples have 2."
+pub const MAX_ALLOWANCE: usize = 8;
+pub const ALLOWANCE: usize = 2;
+
 /// The lengths of the two lent output parts.
 #[derive(Clone, Copy, Debug, PartialEq, Eq)]
 pub struct Room {
@@ -76,7 +80,7 @@ pub fn call(c: &Call) -> Outcome {
 
 /// "Taking a query", then "taking a vector, left before right".
 pub fn taken(c: &Call) -> Result<(Query, Vector, Vector), Refusal> {
-    let query = query::take_query(&c.query)?;
+    let query = take_query(&c.query)?;
     let left = take_vector(0, &c.left_labels, &c.left)?;
     let right = take_vector(1, &c.right_labels, &c.right)?;
     Ok((query, left, right))

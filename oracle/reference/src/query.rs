@@ -1,5 +1,5 @@
 //! The query.
-use crate::Refusal;
+use crate::{Refusal, MAX_ALLOWANCE};
 
 /// "Operators are numbered 0 to 18 as `Operator` lists them, 0 `Add` to 18 `Unless`."
 #[derive(Clone, Copy, Debug, PartialEq, Eq)]
@@ -100,17 +100,22 @@ pub struct Query {
     pub bool_flag: bool,
     pub matching_list: Vec<Vec<u8>>,
     pub join_list: Vec<Vec<u8>>,
+    pub allowance: usize,
 }
 
 /// "Taking a query: 1, operator above 18, or 2 or 8; then 2, the query otherwise not as above, bytes left over included." An
-/// empty query has no operator byte to refuse: it is 2.
+/// empty query has no operator byte to refuse: it is 2. 02: "13, an allowance above 8, after number 2".
 pub fn take_query(bytes: &[u8]) -> Result<Query, Refusal> {
     if let Some(&byte) = bytes.first() {
         if !Operator::ALL.get(usize::from(byte)).is_some_and(|op| op.is_carried()) {
             return Err(Refusal::new(1, 0, 0));
         }
     }
-    well_formed(bytes).ok_or(Refusal::new(2, 0, 0))
+    let query = well_formed(bytes).ok_or(Refusal::new(2, 0, 0))?;
+    if query.allowance > MAX_ALLOWANCE {
+        return Err(Refusal::new(13, 0, 0));
+    }
+    Ok(query)
 }
 
 fn well_formed(bytes: &[u8]) -> Option<Query> {
@@ -131,10 +136,12 @@ fn well_formed(bytes: &[u8]) -> Option<Query> {
     if matches!(join, Join::OneToOne | Join::ManyToMany) && !join_list.is_empty() {
         return None;
     }
-    if !rest.is_empty() {
+    // 02: "The query gains a last byte, behind the join list".
+    let &[allowance] = rest else {
         return None;
-    }
-    Some(Query { op, matching, join, keep_names: flags & 1 != 0, bool_flag: flags & 2 != 0, matching_list, join_list })
+    };
+    let (keep_names, bool_flag) = (flags & 1 != 0, flags & 2 != 0);
+    Some(Query { op, matching, join, keep_names, bool_flag, matching_list, join_list, allowance: usize::from(allowance) })
 }
 
 /// "A list is a count byte 0 to 32, then labels, each a length byte 1 to 255 and its bytes."
@@ -169,6 +176,7 @@ impl Query {
                 out.extend_from_slice(label);
             }
         }
+        out.push(self.allowance as u8);
         out
     }
 }

@@ -1,5 +1,6 @@
 //! Readings: binary64 by their bits.
 use crate::query::Operator;
+use crate::MAX_ALLOWANCE;
 
 /// "An N from arithmetic, or written by a rule that gives N, is hexadecimal 7ff8000000000000".
 pub const MISSING: u64 = 0x7ff8_0000_0000_0000;
@@ -17,17 +18,23 @@ pub enum Merged {
     Overlapping,
     /// Number 6.
     Unequal,
+    /// Number 13.
+    TooMuchAllowed,
 }
 
 /// "`merge_non_overlapping_timeseries` refuses at the third place where both have a reading, or if p is at most 2; else the
-/// source's readings overwrite." "Merging alone answers 6 for rows of unequal length, else done or overlapping; only done
-/// changes the destination row."
-pub fn merge(destination: &mut [u64], source: &[u64]) -> Merged {
+/// source's readings overwrite." 02: "Merging answers overlapping at the first place beyond [the allowance], or if p is at most
+/// 2." "Merging alone answers 6 for rows of unequal length, else done or overlapping; only done changes the destination row."
+/// 02: "13, an allowance above 8 ...; merging alone gives it too, before number 6."
+pub fn merge(destination: &mut [u64], source: &[u64], allowance: usize) -> Merged {
+    if allowance > MAX_ALLOWANCE {
+        return Merged::TooMuchAllowed;
+    }
     if destination.len() != source.len() {
         return Merged::Unequal;
     }
     let both = destination.iter().zip(source).filter(|(d, s)| !is_missing(**d) && !is_missing(**s)).count();
-    if both >= 3 || source.len() <= 2 {
+    if both > allowance || source.len() <= 2 {
         return Merged::Overlapping;
     }
     for (d, s) in destination.iter_mut().zip(source) {

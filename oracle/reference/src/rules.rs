@@ -71,7 +71,7 @@ fn one_to_one(query: &Query, left: &[Placed], right: &[Placed]) -> Vec<Event> {
         }
         // "first left place of the key, among kept series"
         let rank = (first.place, 0);
-        let what = match (merged_into_last(&lefts), merged_into_last(&rights)) {
+        let what = match (merged_into_last(query, &lefts), merged_into_last(query, &rights)) {
             // "left before right"
             (Err((kept, failed)), _) => What::Duplicate { right: false, kept, failed },
             (_, Err((kept, failed))) => What::Duplicate { right: true, kept, failed },
@@ -86,11 +86,12 @@ fn one_to_one(query: &Query, left: &[Placed], right: &[Placed]) -> Vec<Event> {
     events
 }
 
-fn merged_into_last(same: &[&Placed]) -> Result<Vec<u64>, (usize, usize)> {
+/// 02: "One-to-one and joins pass it down": each merge has the whole allowance, against the row as merged so far.
+fn merged_into_last(query: &Query, same: &[&Placed]) -> Result<Vec<u64>, (usize, usize)> {
     let (last, earlier) = same.split_last().expect("a key has a series");
     let mut row = last.series.row.clone();
     for s in earlier {
-        if merge(&mut row, &s.series.row) != Merged::Done {
+        if merge(&mut row, &s.series.row, query.allowance) != Merged::Done {
             return Err((last.place, s.place));
         }
     }
@@ -113,7 +114,8 @@ fn join(query: &Query, many: &[Placed], one: &[Placed]) -> Vec<Event> {
             let mut row = earliest.series.row.clone();
             let mut failed = None;
             for j in i + 1..ones.len() {
-                if edited[j].tags == edited[i].tags && merge(&mut row, &ones[j].series.row) != Merged::Done {
+                let same = edited[j].tags == edited[i].tags;
+                if same && merge(&mut row, &ones[j].series.row, query.allowance) != Merged::Done {
                     failed = Some(ones[j].place);
                     break;
                 }

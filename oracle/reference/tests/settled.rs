@@ -1,4 +1,4 @@
-//! 01's settled examples, its one printed answer, and 02's grids.
+//! 01's settled examples, its one printed answer, 02's grids and 02's allowance.
 use reference::*;
 
 const N: u64 = MISSING;
@@ -25,6 +25,7 @@ fn query(op: Operator) -> Query {
         bool_flag: false,
         matching_list: vec![],
         join_list: vec![],
+        allowance: ALLOWANCE,
     }
 }
 
@@ -46,7 +47,7 @@ const NAN: f64 = f64::NAN;
 fn merging() {
     let merged = |d: &[f64], s: &[f64]| {
         let mut d = row(d);
-        (merge(&mut d, &row(s)), d)
+        (merge(&mut d, &row(s), ALLOWANCE), d)
     };
     assert_eq!(merged(&[1., NAN, 3., NAN], &[NAN, 2., NAN, 4.]), (Merged::Done, row(&[1., 2., 3., 4.])));
     assert_eq!(merged(&[1., 2., 3.], &[9., 8., NAN]), (Merged::Done, row(&[9., 8., 3.])));
@@ -183,5 +184,92 @@ fn grids_that_differ() {
         assert_eq!(called_on(&good, &on(start, step, 1, twice())), Err(Refusal::new(12, 0, 0)));
         assert_eq!(called_on(&on(start, step, 0, vec![]), &on(7, 5, 0, vec![])), Err(Refusal::new(12, 0, 0)));
         assert_eq!(called_on(&good, &on(start, step, 0, vec![])), Err(Refusal::new(6, 0, 0)));
+    }
+}
+
+fn refused(number: u64) -> Result<Query, Refusal> {
+    Err(Refusal::new(number, 0, 0))
+}
+
+#[test]
+fn allowances_are_taken() {
+    let good = Query {
+        matching: Matching::On,
+        matching_list: vec![b"a".to_vec()],
+        join: Join::GroupLeft,
+        join_list: vec![b"b".to_vec()],
+        ..query(Operator::Add)
+    };
+    for allowance in 0..=255 {
+        let asked = Query { allowance, ..good.clone() };
+        let taken = take_query(&asked.bytes());
+        assert_eq!(taken, if allowance <= 8 { Ok(asked.clone()) } else { refused(13) });
+        // Bytes behind it, a list under matching 0, a list cut, and a refused operator come before 13.
+        assert_eq!(take_query(&[&asked.bytes()[..], &[0]].concat()), refused(2));
+        assert_eq!(take_query(&Query { matching: Matching::None, ..asked.clone() }.bytes()), refused(2));
+        assert_eq!(take_query(&Query { op: Operator::Pow, ..asked }.bytes()), refused(1));
+        assert_eq!(take_query(&[0, 1, 0, 0, 1, 1, allowance as u8]), refused(2));
+    }
+    let bytes = good.bytes();
+    assert_eq!(take_query(&bytes[..bytes.len() - 1]), refused(2));
+    // 13 before a vector's faults.
+    let bad = Query { allowance: 9, ..good };
+    let none = || (vec![], vec![]);
+    let ((left_labels, left), (right_labels, right)) = (none(), none());
+    let room = Room { labels: 0, readings: 0 };
+    let c = Call { query: bad.bytes(), left_labels, left, right_labels, right, room };
+    assert_eq!(call(&c), Err(Refusal::new(13, 0, 0)));
+}
+
+#[test]
+fn merging_under_each_allowance() {
+    let ones = |n: usize, p: usize| row(&[&vec![1.; n][..], &vec![NAN; p - n]].concat());
+    for allowance in 0..=8 {
+        for p in [0, 1, 2, 3, 9, 64, 1100] {
+            for overlaps in 0..=p.min(10) {
+                let mut d = row(&vec![2.; p]);
+                let merged = merge(&mut d, &ones(overlaps, p), allowance);
+                if p > 2 && overlaps <= allowance {
+                    assert_eq!((merged, d[..overlaps].to_vec()), (Merged::Done, row(&vec![1.; overlaps])));
+                } else {
+                    assert_eq!((merged, d), (Merged::Overlapping, row(&vec![2.; p])));
+                }
+            }
+        }
+        assert_eq!(merge(&mut ones(1, 3), &ones(1, 4), allowance), Merged::Unequal);
+    }
+    for allowance in [9, 255] {
+        assert_eq!(merge(&mut ones(0, 3), &ones(0, 3), allowance), Merged::TooMuchAllowed);
+        assert_eq!(merge(&mut ones(1, 3), &ones(1, 4), allowance), Merged::TooMuchAllowed);
+    }
+}
+
+/// Three series of a key on one side. The second merge of a call overlaps the first's readings at as many places as the allowance
+/// has, or at one more; the first merge overlaps at as many as it has. They are never added up.
+#[test]
+fn the_allowance_is_each_merge_s() {
+    let kept = [1., 1., 1., 1., NAN, NAN, NAN, NAN];
+    let first = [2., 2., 2., NAN, 2., 2., 2., 2.];
+    let (at, above) = ([NAN, NAN, NAN, NAN, NAN, 3., 3., 3.], [NAN, NAN, NAN, NAN, 3., 3., 3., 3.]);
+    let side = |row: &[f64]| series("", &[], row);
+    let one = || vec![side(&[0.; 8])];
+    for (join, left) in [(Join::OneToOne, true), (Join::OneToOne, false), (Join::GroupLeft, false), (Join::GroupRight, true)] {
+        let q = Query { join, allowance: 3, ..query(Operator::Add) };
+        let ran = |q: &Query, second: &[f64]| {
+            // One-to-one merges into the last, a join into the first.
+            let all = match join {
+                Join::OneToOne => vec![side(&first), side(second), side(&kept)],
+                _ => vec![side(&kept), side(&first), side(second)],
+            };
+            if left {
+                called(q, all, one())
+            } else {
+                called(q, one(), all)
+            }
+        };
+        assert_eq!(rows(ran(&q, &at)), [row(&[2., 2., 2., 1., 2., 3., 3., 3.])]);
+        let (kept, failed) = if join == Join::OneToOne { (2, 1) } else { (0, 2) };
+        assert_eq!(ran(&q, &above), Err(Refusal::new(if left { 7 } else { 8 }, kept, failed)));
+        assert!(ran(&Query { op: Operator::Or, allowance: 0, ..q }, &above).is_ok());
     }
 }

@@ -52,6 +52,46 @@ fn vecop_prints() {
     }
 }
 
+#[test]
+fn queries_are_taken() {
+    let given = stored("test_query/stdin");
+    let rest = &mut given.as_slice();
+    for line in lines("test_query/stdout") {
+        match take_query(part(rest)) {
+            Ok(q) => assert!(line.starts_with("asked ") && line.ends_with(&format!(" {}", q.allowance)), "{line}"),
+            Err(r) => assert_eq!(line, format!("refused {} {} {}", r.number, r.fields[0], r.fields[1])),
+        }
+    }
+    assert!(rest.is_empty());
+}
+
+/// Of the operators' cases only that they are read: `what` is 1 for a merge.
+#[test]
+fn rows_are_merged() {
+    let given = stored("test_binaryop/stdin");
+    let rest = &mut given.as_slice();
+    for line in lines("test_binaryop/stdout") {
+        let (&[what, allowance, ..], after) = rest.split_first_chunk::<4>().expect("a case");
+        *rest = after;
+        let lengths = [number(rest), number(rest)];
+        let [mut destination, source] = lengths.map(|n| {
+            let (row, after) = rest.split_at(8 * n);
+            *rest = after;
+            words(row)
+        });
+        if what == 1 {
+            let word = match merge(&mut destination, &source, usize::from(allowance)) {
+                Merged::Done => "done",
+                Merged::Overlapping => "overlapping",
+                Merged::Unequal => "refused 6",
+                Merged::TooMuchAllowed => "refused 13",
+            };
+            assert_eq!(destination.iter().fold(word.to_string(), |text, r| format!("{text} {r:016x}")), line);
+        }
+    }
+    assert!(rest.is_empty());
+}
+
 /// The positions that the program prints behind `at` are its own.
 #[test]
 fn vectors_are_taken() {

@@ -1,6 +1,6 @@
 //! Cases: random ones from a seed, and small ones in full.
 use reference::{Call, Grid, Join, Labels, Matching, Operator, Query, Room, Series, Tag, Vector};
-use reference::{MAX_START, MAX_STEP, MISSING, NAME};
+use reference::{ALLOWANCE, MAX_START, MAX_STEP, MISSING, NAME};
 
 use crate::random::Random;
 
@@ -71,6 +71,7 @@ pub fn plain(op: Operator) -> Query {
         bool_flag: false,
         matching_list: vec![],
         join_list: vec![],
+        allowance: ALLOWANCE,
     }
 }
 
@@ -87,7 +88,7 @@ pub enum Extent {
     Tiny,
 }
 
-/// A random case of any operator, matching, join and flag. `utf8` keeps labels to UTF-8.
+/// A random case of any operator, matching, join and flag, with the allowance that the Rust has. `utf8` keeps labels to UTF-8.
 pub fn random(r: &mut Random, op: Operator, extent: Extent, utf8: bool) -> Call {
     let query = random_query(r, op, extent);
     let p = match extent {
@@ -120,6 +121,14 @@ pub fn random(r: &mut Random, op: Operator, extent: Extent, utf8: bool) -> Call 
         }
     }
     call(&query, &left, &right, ROOM)
+}
+
+/// A random case of any operator under this allowance.
+pub fn allowing(r: &mut Random, allowance: usize) -> Call {
+    let op = r.pick(&CARRIED);
+    let mut c = random(r, op, Extent::Small, true);
+    *c.query.last_mut().expect("an allowance") = allowance as u8;
+    c
 }
 
 /// A grid in its ranges.
@@ -166,7 +175,8 @@ fn random_query(r: &mut Random, op: Operator, extent: Extent) -> Query {
         Join::GroupLeft | Join::GroupRight => random_list(r, extent),
         _ => vec![],
     };
-    Query { op, matching, join, keep_names: r.one_in(2), bool_flag: r.one_in(2), matching_list, join_list }
+    let (keep_names, bool_flag) = (r.one_in(2), r.one_in(2));
+    Query { op, matching, join, keep_names, bool_flag, matching_list, join_list, allowance: ALLOWANCE }
 }
 
 /// Unsorted and with repetitions; past sixteen labels the Rust searches a set.
@@ -239,7 +249,8 @@ fn random_reading(r: &mut Random, odd: bool) -> u64 {
     (r.below(9) as f64 - 2.0).to_bits()
 }
 
-fn missing(r: &mut Random) -> u64 {
+/// A missing reading, now and then of another pattern than rules write.
+pub fn missing(r: &mut Random) -> u64 {
     if r.one_in(4) {
         r.pick(&READINGS[19..])
     } else {
@@ -305,8 +316,8 @@ pub fn all_readings(visit: &mut dyn FnMut(Call)) {
 }
 
 /// Every gap pattern of two rows of one key with p of 0 to 5, and of three with p of 3, to be merged on the left, on the right,
-/// or on the one side of either join, under an arithmetic operator and a comparison.
-pub fn all_merges(visit: &mut dyn FnMut(Call)) {
+/// or on the one side of either join, under an arithmetic operator and a comparison, and under this allowance.
+pub fn all_merges(allowance: usize, visit: &mut dyn FnMut(Call)) {
     let row = |p: usize, pattern: usize, first: usize| -> Vec<u64> {
         (0..p).map(|i| if pattern >> i & 1 == 1 { ((first + i) as f64).to_bits() } else { MISSING }).collect()
     };
@@ -322,7 +333,7 @@ pub fn all_merges(visit: &mut dyn FnMut(Call)) {
             let one = Vector::hourly(points, vec![Series { labels: labels(b"", &[(b"a", b"x")]), row: row(points, !0, 1) }]);
             for op in [Operator::Sub, Operator::Lt] {
                 for join in JOINS {
-                    let query = Query { join, ..plain(op) };
+                    let query = Query { join, allowance, ..plain(op) };
                     visit(call(&query, &several, &one, ROOM));
                     visit(call(&query, &one, &several, ROOM));
                 }
@@ -364,6 +375,7 @@ pub fn all_labels(first: usize, step: usize, visit: &mut dyn FnMut(Call)) {
                         bool_flag: flags & 2 != 0,
                         matching_list: matching_list.clone(),
                         join_list: join_list.clone(),
+                        allowance: ALLOWANCE,
                     };
                     for left in &sides {
                         for right in &sides {

@@ -1,7 +1,7 @@
 //! The reference held against the Rust: labels, readings, timestamps and duplicate errors, series order aside, all NaNs equal.
 use std::collections::HashMap;
 
-use reference::{answer, is_missing, run, taken, Call, Event, Join, Query, Room, Series, Vector, What, MISSING};
+use reference::{answer, is_missing, run, taken, Call, Event, Join, Query, Room, Series, Vector, What, ALLOWANCE, MISSING};
 
 use crate::rust::{self, Given};
 
@@ -33,6 +33,8 @@ pub enum Known {
     /// 02: sides on different grids are refused with 12. The Rust does not look at timestamps, and each answer series has those of
     /// the series that it comes from.
     UnequalGrids,
+    /// 02: a merge allows as many overlaps as the query says. The Rust always allows 2.
+    OtherAllowance,
     /// 01: every many-side series meets its match. The Rust's `group_join` empties the one side on the first of a key, and so
     /// also misses a duplicate that only a later one would show.
     JoinUsesUp,
@@ -46,10 +48,11 @@ pub enum Known {
 }
 
 impl Known {
-    pub const ALL: [Known; 7] = [
+    pub const ALL: [Known; 8] = [
         Known::RefusedOperator,
         Known::UnequalPoints,
         Known::UnequalGrids,
+        Known::OtherAllowance,
         Known::JoinUsesUp,
         Known::WhichDuplicate,
         Known::NoLimits,
@@ -67,6 +70,9 @@ pub fn compare(call: &Call) -> Verdict {
     let Ok((query, left, right)) = taken(call) else {
         return Verdict::Apart("refused in taking");
     };
+    if query.allowance != ALLOWANCE {
+        return other_allowance(call, &query, &left, &right);
+    }
     let Some(argument) = rust::argument(&query, &left, &right) else {
         return Verdict::Apart("not UTF-8");
     };
@@ -107,6 +113,17 @@ fn refused_operator(call: &Call, op: u8, rest: &[u8]) -> Verdict {
     match rust::argument(&query, &left, &right).map(rust::run) {
         None => Verdict::Apart("not UTF-8"),
         Some(_) => Verdict::Known(Known::RefusedOperator),
+    }
+}
+
+/// Holds the Rust against the same call at its own allowance, and shows where the query's gives another outcome.
+fn other_allowance(call: &Call, query: &Query, left: &Vector, right: &Vector) -> Verdict {
+    let own = Query { allowance: ALLOWANCE, ..query.clone() };
+    match compare(&Call { query: own.bytes(), ..call.clone() }) {
+        differing @ Verdict::Differ(_) => differing,
+        apart @ Verdict::Apart(_) => apart,
+        _ if answer(query, left, right, AMPLE) != answer(&own, left, right, AMPLE) => Verdict::Known(Known::OtherAllowance),
+        same => same,
     }
 }
 

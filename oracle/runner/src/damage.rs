@@ -171,6 +171,45 @@ pub fn grid_borders(visit: &mut dyn FnMut(Call)) {
     }
 }
 
+/// Every byte as the allowance, with and without bytes behind it, and none, behind queries that are good and that have another
+/// fault, cut lists among them, over sides that are good, that overlap at four places, and that have a fault: 1 and 2 come before
+/// 13, all faults of a side after it.
+pub fn allowances(visit: &mut dyn FnMut(Call)) {
+    let side = |n: usize| Vector::hourly(4, vec![series(tagged(1, 1), 4); n]);
+    let good = call(&plain(Operator::Add), &side(1), &side(1), ROOM);
+    let overlapping = call(&plain(Operator::Add), &side(2), &side(1), ROOM);
+    let mut faulty = good.clone();
+    put_grid(&mut faulty.left_labels, Grid { start: 0, step: 0 });
+    // Without their allowance: three that are good, a refused operator and one above 18, an unknown join, lists that are not
+    // empty where they are to be.
+    let heads: [&[u8]; 8] = [
+        b"\0\0\0\0\0\0",
+        b"\0\x01\x01\x02\x01\x01z\x02\x01b\x01c",
+        b"\x12\0\x03\0\0\0",
+        b"\x08\0\0\0\0\0",
+        b"\x13\0\0\0\0\0",
+        b"\0\0\x04\0\0\0",
+        b"\0\0\0\0\x01\x01z\0",
+        b"\0\0\0\0\0\x01\x01b",
+    ];
+    for c in [good, overlapping, faulty] {
+        let mut put = |query: Vec<u8>| visit(Call { query, ..c.clone() });
+        for head in heads {
+            for allowance in 0..=255 {
+                put([head, &[allowance]].concat());
+            }
+            for allowance in [0, 2, 8, 9, 255] {
+                put([head, &[allowance, 0]].concat());
+                put([head, &[allowance, allowance]].concat());
+            }
+            for cut in 0..=head.len() {
+                put(head[..cut].to_vec());
+                put([&head[..cut], &[9]].concat());
+            }
+        }
+    }
+}
+
 /// Sides of different p, empty ones included, with faults before them at times; half of them on one grid.
 pub fn unequal_points(r: &mut Random, visit: &mut dyn FnMut(Call)) {
     let mut c = whole(r);

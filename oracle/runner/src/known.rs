@@ -64,6 +64,18 @@ pub fn examples(known: Known) -> Vec<(&'static str, Call)> {
                 ),
             ]
         }
+        Known::OtherAllowance => {
+            let allowing = |allowance: usize| Query { allowance, ..query(Operator::Add) };
+            let join = Query { join: Join::GroupLeft, ..allowing(3) };
+            let one = || side(3, vec![bare(&[1.0; 3])]);
+            let two = || side(3, vec![bare(&[1.0; 3]), bare(&[1.0; 3])]);
+            let sharing_one = side(3, vec![bare(&[1.0, f64::NAN, f64::NAN]), bare(&[1.0; 3])]);
+            vec![
+                ("+ of two series that share a point, none allowed", given(&allowing(0), sharing_one, one())),
+                ("+ of two series that share three points, three allowed", given(&allowing(3), two(), one())),
+                ("+ group_left() on two that share three points, three allowed", given(&join, one(), two())),
+            ]
+        }
         Known::JoinUsesUp => {
             let join = Query { join: Join::GroupLeft, ..query(Operator::Add) };
             let two = side(1, vec![bare(&[1.0]), bare(&[2.0])]);

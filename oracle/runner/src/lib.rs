@@ -4,6 +4,7 @@ pub mod compare;
 pub mod damage;
 pub mod known;
 pub mod library;
+pub mod overlaps;
 pub mod random;
 pub mod rust;
 pub mod sample;

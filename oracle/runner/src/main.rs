@@ -4,8 +4,8 @@ use std::process::ExitCode;
 use oracle::library::{Library, Program};
 use oracle::random::Random;
 use oracle::tally::Tally;
-use oracle::{cases, damage, known, sample};
-use reference::Call;
+use oracle::{cases, damage, known, overlaps, sample};
+use reference::{Call, ALLOWANCE, MAX_ALLOWANCE};
 
 struct Options {
     seed: u64,
@@ -100,10 +100,11 @@ fn admitted(o: &Options, visit: &mut dyn FnMut(&'static str, Call)) {
         }
     }
     cases::all_readings(&mut |c| visit("all pairs of readings", c));
-    cases::all_merges(&mut |c| visit("all gap patterns merged", c));
+    cases::all_merges(ALLOWANCE, &mut |c| visit("all gap patterns merged", c));
 }
 
-/// Visits every case for a library alone: damaged inputs, labels outside UTF-8, limits and lent parts.
+/// Visits every case for a library alone: other allowances than the Rust's, damaged inputs, labels outside UTF-8, limits and lent
+/// parts.
 fn beyond(o: &Options, visit: &mut dyn FnMut(&'static str, Call)) {
     let mut r = Random::new(o.seed.wrapping_mul(1_000_033));
     let n = o.cases;
@@ -111,6 +112,19 @@ fn beyond(o: &Options, visit: &mut dyn FnMut(&'static str, Call)) {
         let op = r.pick(&cases::CARRIED);
         visit("labels outside UTF-8", cases::random(&mut r, op, cases::Extent::Small, false));
     }
+    for allowance in 0..=MAX_ALLOWANCE {
+        for _ in 0..n.div_ceil(4) {
+            visit("any case under every allowance", cases::allowing(&mut r, allowance));
+        }
+        for _ in 0..n.div_ceil(4) {
+            visit("overlaps about the allowance", overlaps::random(&mut r, allowance, false));
+        }
+        for _ in 0..n.div_ceil(20) {
+            visit("overlaps about the allowance, long rows", overlaps::random(&mut r, allowance, true));
+        }
+    }
+    overlaps::borders(&mut |c| visit("overlaps beside every border of 64 places", c));
+    damage::allowances(&mut |c| visit("every byte as the allowance", c));
     damage::cuts(&mut r, n.div_ceil(50), &mut |c| visit("parts cut or too long", c));
     for _ in 0..2 * n {
         damage::changed_bytes(&mut r, &mut |c| visit("bytes changed", c));
@@ -137,7 +151,8 @@ fn against_rust(o: &Options) -> bool {
     tally.report()
 }
 
-/// The exhaustive labels are far too many for a process each: every 97th is put to the program.
+/// The exhaustive cases are far too many for a process each: every 97th of the labels is put to the program, and of the gap patterns
+/// those under the Rust's allowance.
 fn program(o: &Options, mut program: Program) -> bool {
     println!("{} against the reference, seed {}, {} random cases an operator", program.name(), o.seed, o.cases);
     let mut tally = Tally::new(o.show);
@@ -157,6 +172,10 @@ fn linked(o: &Options) -> bool {
     let mut tally = Tally::new(o.show);
     admitted(o, &mut |kind, c| tally.count_library(kind, &c, &mut library));
     cases::all_labels(0, 1, &mut |c| tally.count_library("all labels and modifiers", &c, &mut library));
+    for allowance in (0..=MAX_ALLOWANCE).filter(|allowance| *allowance != ALLOWANCE) {
+        let kind = "all gap patterns merged, other allowances";
+        cases::all_merges(allowance, &mut |c| tally.count_library(kind, &c, &mut library));
+    }
     beyond(o, &mut |kind, c| tally.count_library(kind, &c, &mut library));
     tally.report()
 }

@@ -29,4 +29,16 @@ impl Random {
     pub fn pick<T: Clone>(&mut self, items: &[T]) -> T {
         items[self.below(items.len())].clone()
     }
+
+    /// `n` of the items, at different places; all where they are fewer.
+    pub fn several<T: Clone>(&mut self, items: &[T], n: usize) -> Vec<T> {
+        let mut items = items.to_vec();
+        let n = n.min(items.len());
+        for i in 0..n {
+            let j = i + self.below(items.len() - i);
+            items.swap(i, j);
+        }
+        items.truncate(n);
+        items
+    }
 }

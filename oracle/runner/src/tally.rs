@@ -63,7 +63,7 @@ impl Tally {
         }
     }
 
-    /// Operator, matching, join and flag, where the query has them.
+    /// Operator, matching, join, flag and allowance, where the query has them.
     fn count_query(&mut self, call: &Call) {
         let Ok((query, ..)) = reference::taken(call) else {
             return;
@@ -73,6 +73,7 @@ impl Tally {
             format!("matching {:?}", query.matching),
             format!("join {:?}", query.join),
             format!("flag {}", u8::from(query.keep_names) + 2 * u8::from(query.bool_flag)),
+            format!("allowance {}", query.allowance),
         ] {
             *self.queries.entry(part).or_default() += 1;
         }

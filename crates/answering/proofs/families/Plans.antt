@@ -12,13 +12,11 @@ use Rattle.operator.specs.Kinds.{kindOf}
 use Rattle.model.specs.Limits.{maxSeries}
 use Rattle.model.specs.Vector.{Series}
 use Rattle.semantics.specs.Events.{Duplicate}
-use Rattle.semantics.specs.Binop.{allowedOverlaps}
 use Rattle.plan.specs.Pairs.{pairsClash, pairsFrom, pairSeries}
 use Rattle.plan.specs.Joins.{JoinWork, joinSeries}
 use Rattle.plan.specs.Sets.{ruleBy, workFor, setRows, setSeries}
 use Rattle.labels.specs.Names.{namesOf}
 use Rattle.query.specs.declared.Query.{Query}
-use Rattle.query_rules.specs.Allowances.{allowedBy}
 use Rattle.side_parts.specs.Lent.{Sides, rowsOnly, BothHeld}
 use Rattle.index_lists.specs.Places.{NotedAll}
 use Rattle.answers.specs.declared.Planned.{Planned}
@@ -30,7 +28,7 @@ use Rattle.pair_records.specs.adjusted_labels.Edits.{pairQuery}
 use Rattle.pair_series.specs.Answers.{codedPairSeries}
 use Rattle.pair_plan.specs.pairs.Pairing.{pairCodes}
 use Rattle.pair_plan.proofs.Coding as Pairs
-use Rattle.pair_plan.proofs.Plans.{clash-unlabelled, allowed-is}
+use Rattle.pair_plan.proofs.Plans.{clash-unlabelled}
 use Rattle.join_series.specs.declared.Work.{Work}
 use Rattle.join_series.specs.Works.{codedWork, manySide}
 use Rattle.join_series.specs.Series.{codedJoinSeries}
@@ -49,9 +47,9 @@ use Rattle.answering.specs.families.Plans.{ruleClash, ruleCodes, earlyCo
 
 module _ (first second : List ℕ) (s : Sides) (held : BothHeld s) (q : Query) (before codes marks : List ℕ) (r : Planned)
     (long : length before ≡ maxSeries) (marks-long : length marks ≡ 4096)
-    (planned : PlannedAs (pairsClash (allowedOverlaps (pairQuery first q)) s 0 (s .left .keys)) (pairCodes s) [] before codes r) where
+    (planned : PlannedAs (pairsClash (q .allowance) s 0 (s .left .keys)) (pairCodes s) [] before codes r) where
   abbrev clash : Option Duplicate
-  clash = pairsClash (allowedOverlaps (pairQuery first q)) s 0 (s .left .keys)
+  clash = pairsClash (q .allowance) s 0 (s .left .keys)
 
   abbrev asked : List Series
   asked = map (pairSeries (pairQuery first q) s) (pairsFrom (s .left .keys) (s .right .keys) 0 (s .left .keys))
@@ -66,7 +64,6 @@ module _ (first second : List ℕ) (s : Sides) (held : BothHeld s) (q : Query) (
   counted n h = planned-count clash (pairCodes s) [] before codes r planned n h
 
   pairs-series : (n : ℕ) → r ≡ P.Rows n → n ≤ maxSeries → map (planSeries (R.Pairs q) first second s (take n codes) marks) (upTo n) ≡ asked
-  unfolding allowedOverlaps
   pairs-series n h few =
       rw (listed n h few, counted n h) (coded-series (codedPairSeries (pairQuery first q) s) (pairCodes s) ∙ pairs-answer n h)
 
@@ -81,15 +78,13 @@ module _ (first second : List ℕ) (s : Sides) (held : BothHeld s) (q : Query) (
   }
 
 pub pairs-planned : (rule : Rule) (first second : List ℕ) (s : Sides) → BothHeld s → (q : Query) → rule ≡ R.Pairs q
-    → (allowance : ℕ) → allowance ≡ allowedBy q → (before codes marks : List ℕ) (r : Planned)
-    → length before ≡ maxSeries → length marks ≡ 4096
-    → PlannedAs (pairsClash allowance (rowsOnly s) 0 (s .left .keys))
-    (pairCodes s) [] before codes r
+    → (before codes marks : List ℕ) (r : Planned) → length before ≡ maxSeries → length marks ≡ 4096
+    → PlannedAs (pairsClash (q .allowance) (rowsOnly s) 0 (s .left .keys)) (pairCodes s) [] before codes r
     → RulePlanned rule first second s before codes marks r
-pairs-planned rule first second s held q e allowance a before codes marks r long marks-long planned =
+pairs-planned rule first second s held q e before codes marks r long marks-long planned =
     rw e
     (pairs-made first second s held q before codes marks r long marks-long
-    (rw (clash-unlabelled allowance s 0 (s .left .keys), a, allowed-is first q) at planned))
+    (rw (clash-unlabelled (q .allowance) s 0 (s .left .keys)) at planned))
 
 -- joins
 

@@ -8,7 +8,6 @@ use Rattle.operator.specs.Kinds.{kindOf}
 use Rattle.model.specs.Limits.{maxSeries}
 use Rattle.model.specs.Vector.{Series}
 use Rattle.semantics.specs.Events.{Duplicate}
-use Rattle.semantics.specs.Binop.{allowedOverlaps}
 use Rattle.semantics.specs.Call.{Outcome}
 use Rattle.plan.specs.Conclude.{conclude}
 use Rattle.plan.specs.Pairs.{pairsClash, pairsFrom, pairSeries}
@@ -36,7 +35,7 @@ joining w first second = codedWork w (namesOf first) (namesOf second)
 
 -- its first clash: a set rule has none
 abbrev pub ruleClash : Rule → List ℕ → List ℕ → Sides → Option Duplicate
-ruleClash (Pairs q) first second s = pairsClash (allowedOverlaps (pairQuery first q)) s 0 (s .left .keys)
+ruleClash (Pairs q) first second s = pairsClash (q .allowance) s 0 (s .left .keys)
 ruleClash (Join w) first second s = firstClash (joining w first second) (manySide w) s
 ruleClash (Set op) first second s = none
 

@@ -15,7 +15,7 @@ use Rattle.model.specs.Query as Model
 use Rattle.model.specs.Query.{resets}
 use Rattle.model.specs.Vector.{Shape}
 use Rattle.semantics.specs.Call as Call
-use Rattle.semantics.specs.Binop.{allowedOverlaps, adjustBinaryOpTags, skipList}
+use Rattle.semantics.specs.Binop.{adjustBinaryOpTags, skipList}
 use Rattle.plan.specs.Pairs.{pairRow, pairSeries, pairsOutcome}
 use Rattle.plan.specs.Joins as Joins
 use Rattle.plan.specs.Joins.{joinOutcome}
@@ -29,7 +29,6 @@ use Rattle.query.specs.declared.Join.{Join}
 use Rattle.query.specs.declared.Join.the-variants as J
 use Rattle.query.specs.declared.Query.{Query}
 use Rattle.query.specs.Queries.{queryOf, joinOf, matchingPart, joinPart}
-use Rattle.query_rules.specs.Allowances.{allowedBy}
 use Rattle.set_tags.specs.declared.naming.Naming.{Naming}
 use Rattle.set_tags.specs.naming.Namings.{namingOf}
 use Rattle.side_parts.specs.Lent.{Sides, Slices, sides, sideAt, sideSeries, BothHeld}
@@ -84,10 +83,10 @@ lists-found s q first second e e′ = record { reads = rw (join-part s (q .«joi
 
 -- `work_of`
 pub work-is : (q : Query) (left : Bool) (join skip : List ℕ) (reset : Bool) → reset ≡ resets (q .operator) (q .«keep_names») (q .«as_bool»)
-    → (n : Naming) → n ≡ namingOf (namesOf join) (namesOf skip) reset → (allowance : ℕ) → allowance ≡ allowedBy q
-    → record { operator = q .operator; «as_bool» = q .«as_bool»; left = left; naming = n; allowance = allowance }
+    → (n : Naming) → n ≡ namingOf (namesOf join) (namesOf skip) reset
+    → record { operator = q .operator; «as_bool» = q .«as_bool»; left = left; naming = n; allowance = q .allowance }
     ≡ askedWork (namesOf join) (namesOf skip) left q
-work-is q left join skip reset hr n hn allowance ha = rw (hn, hr, ha)
+work-is q left join skip reset hr n hn = rw (hn, hr)
 
 -- `rule_of`
 
@@ -134,12 +133,8 @@ held-from (suc (suc i)) l shape arrays at keys rows h = absurd (omega (arith, l)
 -- one-to-one looks at no join list
 same-pairs : (s : List ℕ) (q : Query) (labelRoom room : ℕ) (x : Sides)
     → pairsOutcome (pairQuery (matchingPart s (q .«join_at»)) q) labelRoom room x ≡ pairsOutcome (queryOf s q) labelRoom room x
-unfolding pairSeries pairRow adjustBinaryOpTags allowedOverlaps
+unfolding pairSeries pairRow adjustBinaryOpTags
 same-pairs s q labelRoom room x = refl
-
-allowed-is : (s : List ℕ) (q : Query) → allowedBy q ≡ allowedOverlaps (queryOf s q)
-unfolding allowedOverlaps
-allowed-is s q = refl
 
 -- 01: many side left for group_left, right for group_right
 abbrev manyIf : Bool → Model.Side
@@ -181,7 +176,7 @@ module _ (s : List ℕ) (q : Query) (a : Asked s q) (shape : Shape) (arrays at k
         operator = refl;
         bool = refl;
         naming = refl;
-        allowance = allowed-is s q;
+        allowance = refl;
       })
       y held labelRoom room
 

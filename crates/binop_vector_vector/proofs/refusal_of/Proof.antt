@@ -1,5 +1,5 @@
 -- `refusal_of` meets its contract. Assumes nothing.
-use Rattle.binop_vector_vector.proofs.Stages.{refusal-operator, refusal-malformed, refusal-none}
+use Rattle.binop_vector_vector.proofs.Stages.{refusal-operator, refusal-malformed, refusal-allowance, refusal-none}
 use borrow.Author.Needs.{needs}
 use Rattle.binop_vector_vector.proofs.refusal_of.Statement.{statement}
 use Rattle.binop_vector_vector.proofs.refusal_of.Tie as tie
@@ -11,6 +11,8 @@ refusal-of-spec =
     (λ c. search needs)
     (λ c. search needs)
     (λ c. search needs)
+    (λ c. search needs)
     (λ c. search refusal-operator)
     (λ c. search refusal-malformed)
-    (λ c. refusal-none (c .before .before .args .asked) (c .before .before .pre) (c .before .match .keys3)))
+    (λ c. search refusal-allowance)
+    (λ c. refusal-none (c .before .before .args .asked) (c .before .before .pre) (c .before .match .keys4)))

@@ -10,7 +10,6 @@ use Rattle.semantics.specs.Binop.{skipList}
 use Rattle.query.specs.declared.Join.{Join}
 use Rattle.query.specs.declared.Join.the-variants.{OneToOne, GroupLeft, GroupRight}
 use Rattle.query.specs.declared.Query.{Query}
-use Rattle.query_rules.specs.Allowances.{allowedBy}
 use Rattle.set_tags.specs.naming.Namings.{namingOf}
 use Rattle.join_series.specs.declared.Work.{Work}
 use Rattle.answering.specs.declared.families.Rule.{Rule}
@@ -23,7 +22,7 @@ askedWork join skip left q = record {
   «as_bool» = q .«as_bool»;
   left = left;
   naming = namingOf join skip (resets (q .operator) (q .«keep_names») (q .«as_bool»));
-  allowance = allowedBy q;
+  allowance = q .allowance;
 }
 
 -- the rule of arithmetic and of comparisons

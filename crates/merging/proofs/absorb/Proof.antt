@@ -1,6 +1,6 @@
 -- `absorb` meets its contract. Assumes nothing.
 use borrow.Author.Needs.{needs}
-use Rattle.merging.proofs.Groups.{absorb-other, absorb-done, absorb-overlapping, absorb-unequal}
+use Rattle.merging.proofs.Groups.{absorb-other, row-wide, absorb-done, absorb-overlapping}
 use Rattle.merging.proofs.absorb.Statement.{statement}
 use Rattle.merging.proofs.absorb.Tie as tie
 
@@ -10,13 +10,9 @@ absorb-spec =
     (tie.spec
     (λ c. search absorb-other)
     (λ c κs. search needs)
-    (λ c κs. tt)
-    (λ c. search needs)
-    (λ c. search needs)
-    (λ c. search needs)
+    (λ c κs. search row-wide)
+    (λ c κs. search row-wide)
     (λ c. search needs)
     (λ c. search absorb-done)
     (λ c. search needs)
-    (λ c. search absorb-overlapping)
-    (λ c. search needs)
-    (λ c. search absorb-unequal))
+    (λ c. search absorb-overlapping))

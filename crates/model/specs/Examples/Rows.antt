@@ -67,6 +67,11 @@ merge-none-allowed : merged 0 (one ∷ noReading ∷ three ∷ []) (one ∷ two 
 unfolding computing
 merge-none-allowed = refl
 
+-- p = 2 is refused under every allowance
+merge-two-points : merged 8 (one ∷ noReading ∷ []) (noReading ∷ two ∷ []) ≡ none
+unfolding computing
+merge-two-points = refl
+
 -- an allowance of three takes a third
 merge-more-allowed : merged 3 (one ∷ two ∷ three ∷ []) (nine ∷ eight ∷ seven ∷ []) ≡ some (nine ∷ eight ∷ seven ∷ [])
 unfolding computing

@@ -21,7 +21,7 @@ use Rattle.semantics.specs.Places.{Place, Placed, Rank, numbered, placed, along
 use Rattle.semantics.specs.Events.{Duplicate, Event, Ranked, mark, Rule, ofKey, emission, events, settle}
 use Rattle.semantics.specs.Rules.{onSide, other, ofSide, isFirst, absorbed, mergedIntoEarliest, pairs, sameEdited, alikeTo, worked, groupOf, groups}
 use Rattle.semantics.specs.Rules.{joined, dropping, hasReadings}
-use Rattle.semantics.specs.Binop.{joinedLabels, joinedPair, joinWork, allowedOverlaps, matchedRule, ruleOf, look}
+use Rattle.semantics.specs.Binop.{joinedLabels, joinedPair, joinWork, matchedRule, ruleOf, look}
 use Rattle.semantics.specs.Call.{Outcome, concluded, verdict}
 use Rattle.side_parts.specs.Sides.{rowAt}
 use Rattle.side_parts.specs.Lent.{Sides, exchanged, sideLabels}
@@ -239,7 +239,7 @@ module _ (q : Query) (many : Side) (p : ℕ) (os : List Series) (ok rows : List 
   leads = leadsOf (editOf (workOf q many)) ml k ok ol
 
   abbrev allowed : ℕ
-  allowed = allowedOverlaps q
+  allowed = q .allowance
 
   abbrev editAs : Placed → Placed
   editAs x = record { place = x .place; series = joinedPair q m (x .series) }
@@ -501,14 +501,14 @@ module _ (q : Query) (many : Side) (sides : Sides) (bs os : List Series) (few : 
   leadsBy b k = leadsOf (editOf (workOf q many)) (b .labels) k ok (labelsOfSide os)
 
   abbrev clashFor : Series → ℕ → Option Duplicate
-  clashFor b k = leadsClash (allowedOverlaps q) p rows (other many) (leadsBy b k) 0 (leadsBy b k)
+  clashFor b k = leadsClash (q .allowance) p rows (other many) (leadsBy b k) 0 (leadsBy b k)
 
   series-known : (b : Series) (i k : ℕ) → i < length bs → getD bs i noSeries ≡ b → getD mk i 0 ≡ k → (o : ℕ) → o < length os
       → joinSeries (workOf q many) sides (rowCode i o)
       ≡ joinWork q many b (record {
         labels = joinedLabels q (b .labels) (getD os o noSeries .labels);
         row = rowOf
-            (mergeLead (allowedOverlaps q) p rows (leadsBy b k) o);
+            (mergeLead (q .allowance) p rows (leadsBy b k) o);
       })
   unfolding joinSeries joinLabels joinRow joinWork
   series-known b i k w hb hk o ho =
@@ -561,12 +561,12 @@ module _ (q : Query) (many : Side) (sides : Sides) (bs os : List Series) (few : 
   -- a series of the rule, by what it sees of the one side
 
   abbrev rule : Rule
-  rule = joined (allowedOverlaps q) (joinedPair q) (joinWork q many) many
+  rule = joined (q .allowance) (joinedPair q) (joinWork q many) many
 
-  groups-are : (b : Series) (k : ℕ) → groups (allowedOverlaps q) (joinWork q many b) (pairs (joinedPair q) b (keyed (other many) k 0 ok os))
+  groups-are : (b : Series) (k : ℕ) → groups (q .allowance) (joinWork q many b) (pairs (joinedPair q) b (keyed (other many) k 0 ok os))
       ≡ gather (emitsAt q many p os ok rows (ones .count) few (ones .rows) b k) (keyed (other many) k 0 ok os)
   unfolding groups
-  groups-are b k = gather-map (λ c. mark (c .place) (groupOf (allowedOverlaps q) (joinWork q many b)
+  groups-are b k = gather-map (λ c. mark (c .place) (groupOf (q .allowance) (joinWork q many b)
       (pairs (joinedPair q) b (keyed (other many) k 0 ok os)) c)) (λ x. record { place = x .place; series = joinedPair q b (x .series) })
       (keyed (other many) k 0 ok os)
 

@@ -19,7 +19,7 @@ use Rattle.semantics.specs.Places.{Place, Placed, Rank, numbered, placed, sameP
 use Rattle.semantics.specs.Events.{Duplicate, Event, Ranked, mark, Rule, ofKey, producedBy, emission, events, settle}
 use Rattle.semantics.specs.Rules as Rules
 use Rattle.semantics.specs.Rules.{plain, ofSide, isFirst, both, mergedIntoLast, dropping, hasReadings}
-use Rattle.semantics.specs.Binop.{paired, allowedOverlaps, matchedRule, ruleOf, look}
+use Rattle.semantics.specs.Binop.{paired, matchedRule, ruleOf, look}
 use Rattle.semantics.specs.Call.{concluded, verdict}
 use Rattle.side_parts.specs.Lent.{Sides, sideLabels}
 use Rattle.plan.specs.Keys.{dropped, firstOf, lastOf, keyed}
@@ -81,7 +81,7 @@ module _ (q : Query) (sides : Sides) (ls rs : List Series)
   ms = sides .right .keys
 
   abbrev allowed : ℕ
-  allowed = allowedOverlaps q
+  allowed = q .allowance
 
   module _ (b : Series) (i k : ℕ) (within : i < length ks) (part : eqb k dropped ≡ false) where
     abbrev here : Place

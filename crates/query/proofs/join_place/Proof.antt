@@ -5,7 +5,7 @@ use native.Mathlib.Omega.{arith}
 use lib.ListN.{drop, length-drop}
 use denote.Ref.{now}
 use borrow.Author.Needs.{needs}
-use Rattle.query.proofs.Lists.{ListTaken, part-taken, part-refused, first-bad, second-bad, bytes-behind, both-lists}
+use Rattle.query.proofs.Lists.{ListTaken, part-taken, part-refused, first-bad, second-bad, not-one-behind, both-lists}
 use Rattle.query.proofs.join_place.Statement.{statement}
 use Rattle.query.proofs.join_place.Tie as tie
 
@@ -70,7 +70,7 @@ returns-4 c =
     let k = c .before in
     let f = k .before .before .before .before .before in
     let s = now (f .before .before .before .before .before .before .args .s) in
-    bytes-behind s (f .before .n .given .0 .0) (first f) (k .before .m .given .0 .0) (second k) (c .if1 .left)
+    not-one-behind s (f .before .n .given .0 .0) (first f) (k .before .m .given .0 .0) (second k) (c .if1 .left)
 
 pub join-place-spec : {M : Type 1} → statement M
 join-place-spec =
@@ -92,5 +92,6 @@ join-place-spec =
     (λ c. search needs)
     returns-2
     add-if1
+    (λ c. search needs)
     returns-3
     returns-4)

@@ -1,8 +1,8 @@
 -- Short names for the examples: readings, labels, sides and queries. Assumes nothing.
 use Prim.Native.Nat.{ℕ}
-use mathlib.Core.List.{List, [], _∷_, _++_}
+use mathlib.Core.List.{List, [], _∷_}
 use lib.ListN.{length}
-use Rattle.model.specs.Laws.Query.{encodeList}
+use Rattle.model.specs.Laws.Query.{queryBytes}
 use Rattle.model.specs.Reading.{noReading}
 use Rattle.model.specs.Labels.{Tag}
 use Rattle.model.specs.Vector.{Series, labelPart, labelBytes, readingsOf}
@@ -50,9 +50,9 @@ waste = 119 ∷ 97 ∷ 115 ∷ 116 ∷ 101 ∷ []
 abbrev pub series : List ℕ → List Tag → List ℕ → Series
 series name tags row = record { labels = record { name = name; tags = tags }; row = row }
 
--- a query: operator, matching, join, flags, then the lists
+-- a query: operator, matching, join, flags, then the lists. 02: 01's examples have 2.
 abbrev pub ask : ℕ → ℕ → ℕ → ℕ → List (List ℕ) → List (List ℕ) → List ℕ
-ask o m j flags names joinNames = o ∷ m ∷ j ∷ flags ∷ (encodeList names ++ encodeList joinNames)
+ask o m j flags names joinNames = queryBytes o m j flags names joinNames 2
 
 -- an operator with no modifier
 abbrev pub plainly : ℕ → List ℕ

@@ -34,15 +34,16 @@ unfolding computing
 number-1 = refl
 
 -- 01: then 2, the query otherwise not as above. Cut, a matching, join or flag byte too high, a list of 33, a label cut, an empty label,
--- a matching list without matching, a join list without a join, a byte left over.
+-- a matching list without matching, a join list without a join; without an allowance, a byte behind it.
 number-2 :
     outcomes asked (
     [] ∷ (0 ∷ []) ∷ (0 ∷ 0 ∷ 0 ∷ 0 ∷ 0 ∷ []) ∷
-    (0 ∷ 3 ∷ 0 ∷ 0 ∷ 0 ∷ 0 ∷ []) ∷ (0 ∷ 0 ∷ 4 ∷ 0 ∷ 0 ∷ 0 ∷ []) ∷ (0 ∷ 0 ∷ 0 ∷ 4 ∷ 0 ∷ 0 ∷ []) ∷
-    (0 ∷ 1 ∷ 0 ∷ 0 ∷ 33 ∷ 0 ∷ []) ∷ (0 ∷ 1 ∷ 0 ∷ 0 ∷ 1 ∷ 2 ∷ 112 ∷ []) ∷ (0 ∷ 1 ∷ 0 ∷ 0 ∷ 1 ∷ 0 ∷ 0 ∷ []) ∷
-    (0 ∷ 0 ∷ 0 ∷ 0 ∷ 1 ∷ 1 ∷ 112 ∷ 0 ∷ []) ∷ (0 ∷ 0 ∷ 3 ∷ 0 ∷ 0 ∷ 1 ∷ 1 ∷ 112 ∷ []) ∷ (0 ∷ 0 ∷ 0 ∷ 0 ∷ 0 ∷ 0 ∷ 0 ∷ []) ∷ []
+    (0 ∷ 3 ∷ 0 ∷ 0 ∷ 0 ∷ 0 ∷ 2 ∷ []) ∷ (0 ∷ 0 ∷ 4 ∷ 0 ∷ 0 ∷ 0 ∷ 2 ∷ []) ∷ (0 ∷ 0 ∷ 0 ∷ 4 ∷ 0 ∷ 0 ∷ 2 ∷ []) ∷
+    (0 ∷ 1 ∷ 0 ∷ 0 ∷ 33 ∷ 0 ∷ 2 ∷ []) ∷ (0 ∷ 1 ∷ 0 ∷ 0 ∷ 1 ∷ 2 ∷ 112 ∷ []) ∷ (0 ∷ 1 ∷ 0 ∷ 0 ∷ 1 ∷ 0 ∷ 0 ∷ 2 ∷ []) ∷
+    (0 ∷ 0 ∷ 0 ∷ 0 ∷ 1 ∷ 1 ∷ 112 ∷ 0 ∷ 2 ∷ []) ∷ (0 ∷ 0 ∷ 3 ∷ 0 ∷ 0 ∷ 1 ∷ 1 ∷ 112 ∷ 2 ∷ []) ∷
+    (0 ∷ 0 ∷ 0 ∷ 0 ∷ 0 ∷ 0 ∷ []) ∷ (0 ∷ 0 ∷ 0 ∷ 0 ∷ 0 ∷ 0 ∷ 2 ∷ 0 ∷ []) ∷ []
     )
-    ≡ refused 2 0 0 ∷ refused 2 0 0 ∷ refused 2 0 0 ∷ refused 2 0 0 ∷ refused 2 0 0 ∷ refused 2 0 0 ∷
+    ≡ refused 2 0 0 ∷ refused 2 0 0 ∷ refused 2 0 0 ∷ refused 2 0 0 ∷ refused 2 0 0 ∷ refused 2 0 0 ∷ refused 2 0 0 ∷
     refused 2 0 0 ∷ refused 2 0 0 ∷ refused 2 0 0 ∷ refused 2 0 0 ∷ refused 2 0 0 ∷ refused 2 0 0 ∷ []
 unfolding computing
 number-2 = refl

@@ -8,7 +8,7 @@ use Rattle.test_binaryop.proofs.load.Statement.{statement}
 use Rattle.test_binaryop.proofs.load.Tie as tie
 
 abbrev Inv-loop : tie.InvT-loop
-Inv-loop s n row₀ i₀ row i = (1024 ≡ length row) × (i ≤ n)
+Inv-loop s n row₀ i₀ row i = (2048 ≡ length row) × (i ≤ n)
 
 abbrev μ-loop : tie.MeasureT-loop
 μ-loop s n row₀ i₀ row i = n - i

@@ -5,7 +5,7 @@ use mathlib.Core.Path.{_≡_}
 use mathlib.Core.Bool.{true, false}
 use mathlib.Core.List.{List, map}
 use lib.ListN.{length}
-use Rattle.model.specs.Query.{Query, query, badOperator, malformed, takeQuery}
+use Rattle.model.specs.Query.{Query, query, badOperator, malformed, badAllowance, takeQuery}
 use Rattle.model.specs.Vector.{Series, Shape, Vector, vector, faulty, takeVector, labelBytes, readingsOf}
 use Rattle.semantics.specs.Places.{Rank}
 use Rattle.semantics.specs.Events.{Ranked, Duplicate, answer, duplicate}
@@ -29,6 +29,8 @@ pub data OutcomeOf (s ll lr rl rr : List ℕ) (labelRoom room : ℕ) : Outcome �
   -- 01: Taking a query: 1, operator above 18, or 2 or 8; then 2
   number-1 : takeQuery s ≡ badOperator → OutcomeOf s ll lr rl rr labelRoom room (refused 1 0 0)
   number-2 : takeQuery s ≡ malformed → OutcomeOf s ll lr rl rr labelRoom room (refused 2 0 0)
+  -- 02: 13, an allowance above 8, after number 2
+  number-13 : takeQuery s ≡ badAllowance → OutcomeOf s ll lr rl rr labelRoom room (refused 13 0 0)
   -- 01: Taking a vector, left before right: 3; 4; 5. Fields: side, series place
   left-3-to-5 : (q : Query) → takeQuery s ≡ query q → (n place : ℕ) → 3 ≤ n → n ≤ 5 → takeVector 0 ll lr ≡ faulty n 0 place
       → OutcomeOf s ll lr rl rr labelRoom room (refused n 0 place)

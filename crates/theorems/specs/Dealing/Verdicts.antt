@@ -8,7 +8,7 @@ use Rattle.model.specs.Vector.{Series}
 use Rattle.semantics.specs.Places.{placed, Rank, rankBefore}
 use Rattle.semantics.specs.Events.{Ranked, Verdict, answer, run, emission}
 use Rattle.semantics.specs.Rules as Rules
-use Rattle.semantics.specs.Binop.{allowedOverlaps, paired, joinedPair, joinWork, matchedRule, met, unmatched, adds, Seen, ruleOf, look}
+use Rattle.semantics.specs.Binop.{paired, joinedPair, joinWork, matchedRule, met, unmatched, adds, Seen, ruleOf, look}
 use Rattle.semantics.specs.Call.{verdict}
 use Rattle.theorems.specs.Laws.Order.{Steady, one-to-one-steady, set-rule-steady, dropping-steady, joined-steady, placed-ascending, events-orderly}
 use Rattle.theorems.specs.Laws.Renumber.{Natural, dropping-natural, one-to-one-natural, joined-natural, set-rule-natural, met-moved}
@@ -18,12 +18,12 @@ use Rattle.theorems.specs.Dealing.Numbers.{pilePlaced, apart-second, dea
 use Rattle.theorems.specs.Dealing.Fallback.{falls-same}
 
 matched-natural : (q : Query) (j : Join) → Natural (matchedRule q j)
-matched-natural q oneToOne = one-to-one-natural (allowedOverlaps q) (paired q)
-matched-natural q (group many) = joined-natural (allowedOverlaps q) (joinedPair q) (joinWork q many) many
+matched-natural q oneToOne = one-to-one-natural (q .allowance) (paired q)
+matched-natural q (group many) = joined-natural (q .allowance) (joinedPair q) (joinWork q many) many
 
 matched-steady : (q : Query) (j : Join) → Steady (matchedRule q j)
-matched-steady q oneToOne = one-to-one-steady (allowedOverlaps q) (paired q)
-matched-steady q (group many) = joined-steady (allowedOverlaps q) (joinedPair q) (joinWork q many) many
+matched-steady q oneToOne = one-to-one-steady (q .allowance) (paired q)
+matched-steady q (group many) = joined-steady (q .allowance) (joinedPair q) (joinWork q many) many
 
 rule-natural : (q : Query) (k : Kind) (c : Seen) → Natural (ruleOf q k c)
 rule-natural q (arithmetic a) c = dropping-natural (matched-natural q (q .join))

@@ -6,7 +6,7 @@ use Rattle.answering.proofs.families.plan.Statement.{statement}
 use Rattle.answering.proofs.families.plan.Tie as tie
 
 plan-pairs-requires : tie.Need-plan-pairs-requires
-plan-pairs-requires c κs = both-rows _ (c .before .before .before .before .before .before .before .pre .0)
+plan-pairs-requires c κs = both-rows _ (c .before .before .before .before .before .before .pre .0)
 
 plan-join-requires : tie.Need-plan-join-requires
 plan-join-requires c κs =
@@ -16,11 +16,9 @@ plan-join-requires c κs =
 returns : tie.Need-returns
 returns c =
     let plan = c .before .before in
-    let allowed = plan .before .before in
-    let rule = allowed .before .before in
+    let rule = plan .before .before .before in
     let pre = rule .before .before .before .before .pre in
-    pairs-planned _ _ _ _ (pre .0) _ (rule .rule .given .1) _ (allowed .allowed-overlaps .ensures) _ _ _ _ (pre .1 .0) (pre .1 .1 .0)
-    (plan .plan-pairs .ensures)
+    pairs-planned _ _ _ _ (pre .0) _ (rule .rule .given .1) _ _ _ _ (pre .1 .0) (pre .1 .1 .0) (plan .plan-pairs .ensures)
 
 returns-2 : tie.Need-returns-2
 returns-2 c =
@@ -42,7 +40,6 @@ plan-spec =
     tie.close
     (tie.spec
     (λ c. search needs)
-    (λ c κs. search needs)
     plan-pairs-requires
     (λ c. search needs)
     plan-join-requires
