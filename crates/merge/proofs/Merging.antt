@@ -293,3 +293,45 @@ module _ (d s : List ℕ) where
 
     pub laying-ends : length out ≤ i → out ≡ overwritten d s
     laying-ends h = sym (laid h) ∙ o .rest
+
+-- counting and overwriting in one pass
+
+-- i places are counted, and written into a third row
+pub record Putting (d s out : List ℕ) (n i : ℕ) : Type 0 where
+  pub count : Counted d s n i
+  pub laid : Laying d s out i
+
+module _ (d s : List ℕ) where
+  pub put-starts : (out : List ℕ) → length d ≡ length out → length s ≡ length out → Putting d s out 0 0
+  put-starts out h k = record { count = count-starts d s; laid = laying-starts d s out h k }
+
+  module _ (out : List ℕ) (n i : ℕ) (p : Putting d s out n i) where
+    module _ (h : i < length out) (v : ℕ) (hv : v ≡ eitherGap (getD d i 0) (getD s i 0)) where
+      inside : i < length d
+      inside = omega (arith, p .laid .long)
+
+      pub put-fits : n + v ≤ i + 1
+      put-fits = count-fits d s n i (p .count) v hv (p .laid .same) inside
+
+      pub put-turn : (w : ℕ) → w ≡ sourceFirst (getD d i 0) (getD s i 0) → Putting d s (set out i w) (n + v) (i + 1)
+      put-turn w hw = record {
+        count = count-turn d s n i (p .count) v hv (p .laid .same) inside;
+        laid = laying-turn d s out i (p .laid) w hw h;
+      }
+
+    pub put-below : n ≤ length out
+    put-below = rw (p .laid .long) (count-below d s n i (p .count))
+
+    module _ (over : length out ≤ i) where
+      pub put-laid : out ≡ overwritten d s
+      put-laid = laying-ends d s out i (p .laid) over
+
+      pub put-short : (allowance : ℕ) → length out < 3 → mergedIf false d s ≡ merged allowance d s
+      put-short allowance h = short-unmerged allowance d s (rw (p .laid .long) at h)
+
+      pub put-told : (allowance : ℕ) → 3 ≤ length out
+          → mergedIf (leb (length out - n) allowance) d s ≡ merged allowance d s
+      put-told allowance h =
+          rw (p .laid .long)
+          (long-merged allowance d s (rw (p .laid .long) at h) (length d - n)
+          (count-ends d s n i (p .count) (rw (p .laid .long) at over)))

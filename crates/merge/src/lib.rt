@@ -127,3 +127,28 @@ pub fn put_overwritten(out: &mut [u64], dst: &[u64], src: &[u64])
         i += 1;
     }
 }
+
+// Whether src merges into dst, told by the pass that writes the source's readings over the destination's into a third
+// row. They are written there whether it merges or not.
+pub fn put_merged(out: &mut [u64], dst: &[u64], src: &[u64], allowance: usize) -> bool
+    requires { ⌜ length (now dst) ≡ length (now out) ⌝ }
+    requires { ⌜ length (now src) ≡ length (now out) ⌝ }
+    ensures { λ r. ⌜
+        mergedIf r (now (dst .entry)) (now (src .entry)) ≡ merged allowance (now (dst .entry)) (now (src .entry))
+        ⌝ }
+    ensures { λ r. ⌜ now (out .exit) ≡ overwritten (now (dst .entry)) (now (src .entry)) ⌝ }
+{
+    let mut n: usize = 0;
+    let mut i: usize = 0;
+    while i < out.len() {
+        let x = dst[i];
+        let y = src[i];
+        n += either_gap(x, y);
+        out[i] = source_first(x, y);
+        i += 1;
+    }
+    if out.len() < 3 {
+        return false;
+    }
+    out.len() - n <= allowance
+}
