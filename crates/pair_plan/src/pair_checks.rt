@@ -2,18 +2,22 @@
 use crate::pairs;
 use merging::Merges;
 ghost use mathlib.Core.Path.{_≡_};
-ghost use Prim.Native.Nat.{_+_, _*_, _≤_, _<_};
-ghost use lib.ListN.{length, getD};
+ghost use mathlib.Core.Bool.{false};
+ghost use Prim.Native.Nat.{_+_, _-_, _*_, _≤_, _<_};
+ghost use lib.ListN.{length, getD, take, drop};
 ghost use Rattle.model.specs.Row.{merged};
 ghost use Rattle.merge.specs.Merging.{mergedIf};
 ghost use Rattle.plan.specs.Keys.{firstOf, KeyEnds};
-ghost use Rattle.plan.specs.Merging.{mergeLast};
+ghost use Rattle.plan.specs.Merging.{mergeGroup, mergeLast};
 ghost use Rattle.plan.specs.Pairs.{pairClash, pairsClash};
 ghost use Rattle.side_parts.specs.Sides.{rowAt};
 ghost use Rattle.side_parts.specs.Lent.{RowsHeld, unlabelled, BothRowsHeld, Sides};
+ghost use Rattle.key_places.specs.Two.{areTwo};
 ghost use Rattle.key_ends.specs.Ends.{CodeOf, PairEnds};
+ghost use Rattle.overwriting.specs.Several.{thenRow, mergeOne};
 ghost use Rattle.pair_series.specs.pair_rows.Rows.{PairCode};
-ghost use Rattle.pair_plan.specs.pair_checks.Checks.{failureOf, failedIn, twosMerge, clashIn, clashAt};
+ghost use Rattle.pair_plan.specs.pair_checks.Checks.{failureOf, failedIn, TriedGroup};
+ghost use Rattle.pair_plan.specs.pair_checks.Checks.{twosMerge, clashIn, clashAt};
 
 // Whether the row of one series merges into that of another; nothing is written.
 fn row_merges(rows: &[u64], p: usize, into: usize, from: usize, allowance: usize) -> bool
@@ -31,8 +35,74 @@ fn row_merges(rows: &[u64], p: usize, into: usize, from: usize, allowance: usize
     )
 }
 
-// Whether several series of a key become a single one: the first is tried on the last with no copy, and only where
-// others stand between them is it put over the last, at the start of a work row, and they are merged into that.
+// Whether the rows of a key from a place up to another, and then the row there, merge into one. That last one is only
+// tried, since nothing reads the merged row afterwards.
+fn ensure_between(
+    rows: &[u64],
+    keys: &[usize],
+    k: usize,
+    from: usize,
+    prev: usize,
+    allowance: usize,
+    row: &mut [u64],
+) -> Merges
+    requires { ⌜ from ≤ prev ⌝ }
+    requires { ⌜ prev < length (now keys) ⌝ }
+    requires { ⌜ length (now keys) * length (now row) ≤ length (now rows) ⌝ }
+    ensures { λ r. ⌜
+        TriedGroup
+        (thenRow
+        (mergeGroup allowance (length (now (row .entry))) (now (rows .entry)) k from
+        (take (prev - from) (drop from (now (keys .entry)))) (now (row .entry)))
+        (mergeOne allowance (length (now (row .entry))) (now (rows .entry)) prev))
+        (length (now (row .entry))) (now (row .exit)) r
+        ⌝ }
+{
+    match merging::merge_between(rows, keys, k, from, prev, allowance, row) {
+        Merges::FailedAt(i) => Merges::FailedAt(i),
+        Merges::Done => {
+            if merge::merges(row, side_parts::row(rows, row.len(), prev), allowance) {
+                Merges::Done
+            } else {
+                Merges::FailedAt(prev)
+            }
+        }
+    }
+}
+
+// Whether three or more series of a key become a single one: the first is tried on the last and put over it, at the
+// start of a work row, in one pass, and those between them are merged into that.
+fn ensure_several(
+    rows: &[u64],
+    keys: &[usize],
+    k: usize,
+    first: usize,
+    last: usize,
+    p: usize,
+    allowance: usize,
+    work: &mut [u64],
+) -> Merges
+    requires { ⌜ RowsHeld p (now rows) (now keys) ⌝ }
+    requires { ⌜ KeyEnds (now keys) k first last ⌝ }
+    requires { ⌜ first < last ⌝ }
+    requires { ⌜ areTwo (now keys) k first last ≡ false ⌝ }
+    requires { ⌜ p ≤ length (now work) ⌝ }
+    ensures { λ r. ⌜ failedIn r ≡ failureOf (mergeLast allowance p (now (rows .entry)) (now (keys .entry)) k) ⌝ }
+    ensures { λ r. ⌜ length (now (work .exit)) ≡ length (now (work .entry)) ⌝ }
+{
+    let prev = key_places::last_of(&keys[..last], k);
+    if merge::put_merged(
+        &mut work[..p],
+        side_parts::row(rows, p, last),
+        side_parts::row(rows, p, first),
+        allowance,
+    ) {
+        return ensure_between(rows, keys, k, first + 1, prev, allowance, &mut work[..p]);
+    }
+    Merges::FailedAt(first)
+}
+
+// Whether several series of a key become a single one. Where they are two, the first is tried on the last with no copy.
 fn ensure_merges(
     rows: &[u64],
     keys: &[usize],
@@ -50,18 +120,13 @@ fn ensure_merges(
     ensures { λ r. ⌜ failedIn r ≡ failureOf (mergeLast allowance p (now (rows .entry)) (now (keys .entry)) k) ⌝ }
     ensures { λ r. ⌜ length (now (work .exit)) ≡ length (now (work .entry)) ⌝ }
 {
-    if row_merges(rows, p, last, first, allowance) {
-        if key_places::are_two(keys, k, first, last) {
+    if key_places::are_two(keys, k, first, last) {
+        if row_merges(rows, p, last, first, allowance) {
             return Merges::Done;
         }
-        merge::put_overwritten(
-            &mut work[..p],
-            side_parts::row(rows, p, last),
-            side_parts::row(rows, p, first),
-        );
-        return merging::merge_between(rows, keys, k, first + 1, last, allowance, &mut work[..p]);
+        return Merges::FailedAt(first);
     }
-    Merges::FailedAt(first)
+    ensure_several(rows, keys, k, first, last, p, allowance, work)
 }
 
 // Whether the series of a key on one side become a single one.

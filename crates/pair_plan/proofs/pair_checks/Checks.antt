@@ -14,7 +14,7 @@ use Rattle.model.specs.Query as Model
 use Rattle.model.specs.Laws.Booleans.{both-of}
 use Rattle.side_parts.specs.Lent.{RowsHeld, BothRowsHeld, rowSides, Sides}
 use Rattle.end_codes.specs.Codes.{leftFirst, leftLast, rightFirst, rightLast}
-use Rattle.key_places.specs.Two.{areTwo, bothTwo, keysBetween, two-order, two-between}
+use Rattle.key_places.specs.Two.{areTwo, bothTwo, keysBetween, two-order, two-between, LastBetween, third-between}
 use Rattle.key_ends.specs.Ends.{CodeOf, left-last, right-last, left-ends, right-ends}
 use Rattle.plan.specs.Keys.{firstOf, lastOf, KeyEnds}
 use Rattle.plan.specs.Merging.{RowMerge, row, failedAt, mergeGroup, mergeLast, clash}
@@ -26,23 +26,15 @@ use Rattle.merging.specs.declared.Merges.the-variants.{Done, FailedAt}
 use Rattle.merge.specs.Merging.{mergedIf, mergeable, mergeable-merges}
 use Rattle.answers.specs.Plans.{duplicate}
 use Rattle.side_parts.specs.SideLaws.{row-in, row-width}
-use Rattle.merging.specs.Groups.{mergesTo, MergedGroup}
+use Rattle.merging.specs.Groups.{MergedGroup}
 use Rattle.plan.specs.Laws.Ends.{first-last, last-is, last-within, ends-within, several-stand}
-use Rattle.overwriting.specs.Several.{single-row, none-among, several, several-merged}
+use Rattle.overwriting.specs.Several.{thenRow, mergeOne, single-row, none-among, up-to-last, several, several-merged}
 use Rattle.pair_series.specs.pair_rows.Rows.{PairCode}
 use Rattle.pair_series.proofs.Two.{TwoOn, two-left, two-right}
 use Rattle.pair_plan.specs.declared.pair_checks.Checked.{Checked}
 use Rattle.pair_plan.specs.declared.pair_checks.Checked.the-variants as C
-use Rattle.pair_plan.specs.pair_checks.Checks.{failureOf, failedIn, rowsMerge, twosMerge, clashIn, clashAt}
-
--- what the code tells of merges that are to come to `want`
-
-same-failure : (r : Merges) (d : List ℕ) → failedIn r ≡ failureOf (mergesTo r d)
-same-failure Done d = refl
-same-failure (FailedAt i) d = refl
-
-merges-told : (want : RowMerge) (p : ℕ) (d : List ℕ) (r : Merges) → MergedGroup want p d r → failedIn r ≡ failureOf want
-merges-told want p d r m = same-failure r d ∙ ap failureOf (m .answer)
+use Rattle.pair_plan.specs.pair_checks.Checks.{failureOf, failedIn, TriedGroup}
+use Rattle.pair_plan.specs.pair_checks.Checks.{rowsMerge, twosMerge, clashIn, clashAt}
 
 -- `row_merges`
 
@@ -55,7 +47,26 @@ pub rows-told : (allowance p : ℕ) (rows : List ℕ) (i j : ℕ) (s d : List �
     → mergedIf r (rowAt p rows i) (rowAt p rows j) ≡ merged allowance (rowAt p rows i) (rowAt p rows j)
 rows-told allowance p rows i j s d hd hs r h = rw (hd, hs) at h
 
--- `ensure_merges`
+-- `ensure_between`: what the earlier merges are to come to is `want`, and they leave the row `later`
+
+module _ (want : RowMerge) (p : ℕ) (later : List ℕ) (r : Merges) (g : MergedGroup want p later r) (prev : ℕ) where
+  pub prev-there : (n m : ℕ) → prev < n → n * p ≤ m → prev * length later + length later ≤ m
+  prev-there n m h k = rw (g .long) (omega (arith, row-in prev n p h, k))
+
+  module _ (allowance : ℕ) (rows : List ℕ) where
+    pub between-failed : (i : ℕ) → r ≡ FailedAt i
+        → TriedGroup (thenRow want (mergeOne allowance p rows prev)) p later (FailedAt i)
+    between-failed i e = record { answer = rw (← g .answer, e); long = g .long }
+
+    module _ (e : r ≡ Done) (s : List ℕ) (hs : s ≡ rowAt (length later) rows prev) (m : Bool)
+        (hm : mergedIf m later s ≡ merged allowance later s) where
+      pub prev-fine : m ≡ true → TriedGroup (thenRow want (mergeOne allowance p rows prev)) p later Done
+      prev-fine t = record { answer = rw (← g .answer, e, ← g .long, ← hs, ← hm, t); long = g .long }
+
+      pub prev-fails : m ≡ false → TriedGroup (thenRow want (mergeOne allowance p rows prev)) p later (FailedAt prev)
+      prev-fails f = record { answer = rw (← g .answer, e, ← g .long, ← hs, ← hm, f); long = g .long }
+
+-- `ensure_merges` and `ensure_several`
 
 module _ (allowance p : ℕ) (rows keys : List ℕ) (k first last : ℕ) (held : RowsHeld p rows keys)
     (e : KeyEnds keys k first last) (h : first < last) where
@@ -74,6 +85,18 @@ module _ (allowance p : ℕ) (rows keys : List ℕ) (k first last : ℕ) (held :
   pub last-inside : last ≤ length keys
   last-inside = omega (arith, last-in)
 
+  -- the last series between them, where they are not two
+
+  module _ (t : areTwo keys k first last ≡ false) (prev : ℕ) (hp : prev ≡ lastOf (take last keys) k) where
+    pub prev-between : LastBetween keys k first last prev
+    prev-between = third-between keys k first last last-inside h t prev hp
+
+    pub prev-behind : first + 1 ≤ prev
+    prev-behind = omega (arith, prev-between .behind)
+
+    pub prev-in : prev < length keys
+    prev-in = omega (arith, prev-between .before, last-in)
+
   module _ (m : Bool)
       (hm : mergedIf m (rowAt p rows last) (rowAt p rows first)
       ≡ merged allowance (rowAt p rows last) (rowAt p rows first)) where
@@ -88,6 +111,10 @@ module _ (allowance p : ℕ) (rows keys : List ℕ) (k first last : ℕ) (held :
           (overwritten (rowAt p rows last) (rowAt p rows first))
           (two-between keys k first last (sym hr ∙ u) last-inside),
     )
+
+  pub put-fails : (x y : List ℕ) → x ≡ rowAt p rows last → y ≡ rowAt p rows first → (m : Bool)
+      → mergedIf m x y ≡ merged allowance x y → m ≡ false → some first ≡ failureOf (mergeLast allowance p rows keys k)
+  put-fails x y hx hy m hm f = first-fails m (rw (hx, hy) at hm) f
 
   -- the first series put over the last, at the start of a work row
 
@@ -112,32 +139,35 @@ module _ (allowance p : ℕ) (rows keys : List ℕ) (k first last : ℕ) (held :
       pub put-room : length keys * length (take p (d ++ drop p work)) ≤ length rows
       put-room = rw (← put-part) (omega (arith, held .whole))
 
-      module _ (later : List ℕ) (r : Merges)
-          (g : MergedGroup (mergeGroup allowance (length (take p (d ++ drop p work))) rows k (first + 1)
-          (take (last - (first + 1)) (drop (first + 1) keys)) (take p (d ++ drop p work)))
+      pub put-again : length (d ++ drop p work) ≡ length work
+      put-again = omega (arith, length-append d (drop p work), length-drop p work, put-long)
+
+      module _ (prev : ℕ) (later : List ℕ) (r : Merges)
+          (g : TriedGroup
+          (thenRow
+          (mergeGroup allowance (length (take p (d ++ drop p work))) rows k (first + 1)
+          (take (prev - (first + 1)) (drop (first + 1) keys)) (take p (d ++ drop p work)))
+          (mergeOne allowance (length (take p (d ++ drop p work))) rows prev))
           (length (take p (d ++ drop p work))) later r) where
         pub between-long : length (later ++ drop p (d ++ drop p work)) ≡ length work
         between-long = omega (
           arith,
           length-append later (drop p (d ++ drop p work)),
           length-drop p (d ++ drop p work),
-          length-append d (drop p work),
-          length-drop p work,
+          put-again,
           g .long,
           put-part,
-          put-long,
         )
 
-        pub between-told : (m : Bool)
-            → mergedIf m (rowAt p rows last) (rowAt p rows first)
-            ≡ merged allowance (rowAt p rows last) (rowAt p rows first)
-            → m ≡ true → failedIn r ≡ failureOf (mergeLast allowance p rows keys k)
-        between-told m hm t =
-            merges-told
-            (mergeGroup allowance p rows k (suc first) (take (last - suc first) (drop (suc first) keys))
-            (overwritten (rowAt p rows last) (rowAt p rows first))) p later r
-            (rw (again, put-long, add-one first, hd, hx, hy) at g)
-            ∙ ap failureOf (sym (several-merged allowance p rows k keys first last e h (rw t at hm)))
+        pub between-told : (m : Bool) → mergedIf m x y ≡ merged allowance x y → m ≡ true
+            → LastBetween keys k first last prev → failedIn r ≡ failureOf (mergeLast allowance p rows keys k)
+        between-told m hm t b =
+            (rw (again, put-long, add-one first, hd, hx, hy) at (g .answer))
+            ∙ ap failureOf (sym
+            (several-merged allowance p rows k keys first last e h (rw (t, hx, hy) at hm)
+            ∙ up-to-last allowance p rows k keys (suc first) prev last
+            (overwritten (rowAt p rows last) (rowAt p rows first)) (b .behind) (b .before) last-inside (b .key)
+            (b .others)))
 
 -- `ensure_single_timeseries`
 

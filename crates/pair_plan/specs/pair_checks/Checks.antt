@@ -1,8 +1,10 @@
 -- What the merges of one-to-one come to, as the code tells it. Assumes nothing.
 use Prim.Native.Nat.{ℕ}
+use mathlib.Core.Path.{_≡_}
 use mathlib.Core.Bool.{Bool, cond, _&&_}
 use mathlib.Core.Option.{Option, none, some}
 use mathlib.Core.List.{List}
+use lib.ListN.{length}
 use Rattle.model.specs.Query as Model
 use Rattle.semantics.specs.Events.{Duplicate}
 use Rattle.plan.specs.Merging.{RowMerge, row, failedAt}
@@ -27,6 +29,11 @@ failureOf (failedAt i d) = some i
 abbrev pub failedIn : Merges → Option ℕ
 failedIn Done = none
 failedIn (FailedAt i) = some i
+
+-- merges that are to come to `want` answer r, and leave a row d, p readings wide, of which no more is told
+pub record TriedGroup (want : RowMerge) (p : ℕ) (d : List ℕ) (r : Merges) : Type 0 where
+  pub answer : failedIn r ≡ failureOf want
+  pub long : length d ≡ p
 
 -- whether the row `first` may be merged into the row `last`
 abbrev pub rowsMerge : ℕ → ℕ → List ℕ → ℕ → ℕ → Bool
