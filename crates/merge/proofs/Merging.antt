@@ -2,12 +2,12 @@
 use mathlib.Core.Path.{_≡_, refl, sym, ap, _∙_}
 use mathlib.Core.Bool.{Bool, true, false, not, cond, _||_, _&&_}
 use mathlib.Core.Option.{none, some}
-use mathlib.Core.List.{List, _++_, append-nil}
-use Prim.Native.Nat.{ℕ, suc, _+_, _-_, _≤_, _<_}
+use mathlib.Core.List.{List, [], _∷_, _++_, append-nil}
+use Prim.Native.Nat.{ℕ, zero, suc, _+_, _-_, _≤_, _<_}
 use native.Mathlib.Nat.{le-refl}
 use native.Mathlib.Numerals.{add-one}
 use native.Mathlib.Omega.{arith}
-use lib.Bits.{bitOr}
+use lib.Bits.{bitAnd, bitOr}
 use lib.Dec.{eqb, leb, ltb}
 use lib.ListN.{length, getD, drop, take, set, length-set, drop-of-length-le}
 use lib.Seq.{drop-cons, take-suc-set, drop-set-lt, append-snoc, take-all}
@@ -15,6 +15,9 @@ use borrow.Author.Tests.{eq-eqb, ne-eqb, le-leb, lt-leb, leb-true, leb-false, lt
 use Rattle.model.specs.Limits.{maxAllowance}
 use Rattle.model.specs.Reading.{missing}
 use Rattle.model.specs.Row.{overlaps, overwritten, merged}
+use Rattle.model.specs.Lists.{cases}
+use Rattle.model.specs.Laws.Row.{overwritten-wide}
+use Rattle.model.specs.Laws.Booleans.{and-true, and-false}
 use Rattle.merge.specs.declared.Merged.the-variants.{Done, Overlapping, Unequal, BadAllowance}
 use Rattle.reading.specs.Gaps.{gapOf}
 use Rattle.merge.specs.Merging.{eitherGap, sourceFirst, mergedIf, mergeable, done, overlapping, refused, doneOr, MergedAs, mergedAlone}
@@ -259,6 +262,76 @@ module _ (d s e t : List ℕ) where
             go : (b : Bool) → b ≡ (b && b)
             go true = refl
             go false = refl
+
+-- whether two merges into one row succeed, one after the other
+
+and-one : (p q : Bool) → bitAnd (cond p 1 0) (cond q 1 0) ≡ cond (p && q) 1 0
+and-one true true = refl
+and-one true false = refl
+and-one false true = refl
+and-one false false = refl
+
+-- the source first: a gap where both have one
+first-missing : (x y : ℕ) → missing (sourceFirst x y) ≡ (missing x && missing y)
+unfolding sourceFirst
+first-missing x y =
+    cases (missing y) (λ e. rw e (sym (and-true (missing x)))) (λ e. rw (e, e) (sym (and-false (missing x))))
+
+pub after-gap : (x y z : ℕ) → bitOr (bitAnd (gapOf x) (gapOf y)) (gapOf z) ≡ eitherGap (sourceFirst x y) z
+unfolding gapOf eitherGap
+after-gap x y z =
+    rw (and-one (missing x) (missing y), first-missing x y) (or-one (missing x && missing y) (missing z))
+
+over-at : (d s : List ℕ) (i : ℕ) → i < length d → i < length s
+    → getD (overwritten d s) i 0 ≡ sourceFirst (getD d i 0) (getD s i 0)
+unfolding overwritten sourceFirst
+over-at [] s i h k = absurd (omega arith)
+over-at (x ∷ d) [] i h k = absurd (omega arith)
+over-at (x ∷ d) (y ∷ s) zero h k = refl
+over-at (x ∷ d) (y ∷ s) (suc i) h k = over-at d s i (omega arith) (omega arith)
+
+-- i places are passed, of s into d and of t into what comes of it
+abbrev pub CountedThree : List ℕ → List ℕ → List ℕ → ℕ → ℕ → ℕ → Type 0
+CountedThree d s t n m i = CountedBoth d s (overwritten d s) t n m i
+
+module _ (d s t : List ℕ) where
+  pub three-start : CountedThree d s t 0 0 0
+  three-start = both-start d s (overwritten d s) t
+
+  module _ (n m i : ℕ) (k : CountedThree d s t n m i) where
+    pub first-below : n ≤ length d
+    first-below = one-below d s (overwritten d s) t n m i k
+
+    pub then-below : m ≤ length d
+    then-below = other-below d s (overwritten d s) t n m i k (overwritten-wide d s)
+
+    module _ (hs : length s ≡ length d) (ht : length t ≡ length d) (h : i < length d)
+        (v : ℕ) (hv : v ≡ eitherGap (getD d i 0) (getD s i 0)) where
+      pub first-fits : n + v ≤ i + 1
+      first-fits = one-fits d s (overwritten d s) t n m i k (overwritten-wide d s) hs ht h v hv
+
+      module _ (w : ℕ) (hw : w ≡ eitherGap (sourceFirst (getD d i 0) (getD s i 0)) (getD t i 0)) where
+        then-told : w ≡ eitherGap (getD (overwritten d s) i 0) (getD t i 0)
+        then-told = rw (over-at d s i h (omega arith)) hw
+
+        pub then-fits : m + w ≤ i + 1
+        then-fits = other-fits d s (overwritten d s) t n m i k (overwritten-wide d s) hs ht h v hv w then-told
+
+        pub three-turn : CountedThree d s t (n + v) (m + w) (i + 1)
+        three-turn = both-turn d s (overwritten d s) t n m i k (overwritten-wide d s) hs ht h v hv w then-told
+
+    module _ (over : length d ≤ i) (allowance : ℕ) where
+      pub first-fails : allowance < length d - n
+          → false ≡ (mergeable allowance d s && mergeable allowance (overwritten d s) t)
+      first-fails = one-fails d s (overwritten d s) t n m i k (overwritten-wide d s) over allowance
+
+      pub then-fails : allowance < length d - m
+          → false ≡ (mergeable allowance d s && mergeable allowance (overwritten d s) t)
+      then-fails = other-fails d s (overwritten d s) t n m i k (overwritten-wide d s) over allowance
+
+      pub three-told : length d - n ≤ allowance → length d - m ≤ allowance
+          → ltb 2 (length d) ≡ (mergeable allowance d s && mergeable allowance (overwritten d s) t)
+      three-told = both-told d s (overwritten d s) t n m i k (overwritten-wide d s) over allowance
 
 -- overwriting, into a third row
 

@@ -115,6 +115,41 @@ pub fn both_merge(
     2 < dst.len()
 }
 
+// 1 where z, or what is left of x with y over it, is missing, else 0: with y over x a gap is left where both have one.
+fn gap_after(x: u64, y: u64, z: u64) -> usize
+    ensures { λ r. ⌜ r ≡ eitherGap (sourceFirst x y) z ⌝ }
+{
+    ((reading::gap(x) & reading::gap(y)) | reading::gap(z)) as usize
+}
+
+// Whether src merges into dst, and then later into what comes of it; nothing is written. They are read in one pass.
+pub fn three_merge(dst: &[u64], src: &[u64], later: &[u64], allowance: usize) -> bool
+    requires { ⌜ length (now src) ≡ length (now dst) ⌝ }
+    requires { ⌜ length (now later) ≡ length (now dst) ⌝ }
+    ensures { λ r. ⌜
+        r ≡ (mergeable allowance (now (dst .entry)) (now (src .entry))
+        && mergeable allowance (overwritten (now (dst .entry)) (now (src .entry))) (now (later .entry)))
+        ⌝ }
+{
+    let mut n: usize = 0;
+    let mut k: usize = 0;
+    let mut i: usize = 0;
+    while i < dst.len() {
+        let x = dst[i];
+        let y = src[i];
+        n += either_gap(x, y);
+        k += gap_after(x, y, later[i]);
+        i += 1;
+    }
+    if allowance < dst.len() - n {
+        return false;
+    }
+    if allowance < dst.len() - k {
+        return false;
+    }
+    dst.len() > 2
+}
+
 // Writes the source's readings over the destination's into a third row.
 pub fn put_overwritten(out: &mut [u64], dst: &[u64], src: &[u64])
     requires { ⌜ length (now dst) ≡ length (now out) ⌝ }

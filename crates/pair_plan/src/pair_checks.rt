@@ -12,11 +12,11 @@ ghost use Rattle.plan.specs.Merging.{mergeGroup, mergeLast};
 ghost use Rattle.plan.specs.Pairs.{pairClash, pairsClash};
 ghost use Rattle.side_parts.specs.Sides.{rowAt};
 ghost use Rattle.side_parts.specs.Lent.{RowsHeld, unlabelled, BothRowsHeld, Sides};
-ghost use Rattle.key_places.specs.Two.{areTwo};
+ghost use Rattle.key_places.specs.Two.{areTwo, LastBetween};
 ghost use Rattle.key_ends.specs.Ends.{CodeOf, PairEnds};
 ghost use Rattle.overwriting.specs.Several.{thenRow, mergeOne};
 ghost use Rattle.pair_series.specs.pair_rows.Rows.{PairCode};
-ghost use Rattle.pair_plan.specs.pair_checks.Checks.{failureOf, failedIn, TriedGroup};
+ghost use Rattle.pair_plan.specs.pair_checks.Checks.{failureOf, failedIn, TriedGroup, threeMerge};
 ghost use Rattle.pair_plan.specs.pair_checks.Checks.{twosMerge, clashIn, clashAt};
 
 // Whether the row of one series merges into that of another; nothing is written.
@@ -70,8 +70,68 @@ fn ensure_between(
     }
 }
 
-// Whether three or more series of a key become a single one: the first is tried on the last and put over it, at the
-// start of a work row, in one pass, and those between them are merged into that.
+// Whether no other series of a key stands between two of its places, and the rows of these two merge, one after the
+// other, into that of a last place: all three are tried in one pass.
+fn three_merge(
+    rows: &[u64],
+    keys: &[usize],
+    k: usize,
+    first: usize,
+    prev: usize,
+    last: usize,
+    p: usize,
+    allowance: usize,
+) -> bool
+    requires { ⌜ RowsHeld p (now rows) (now keys) ⌝ }
+    requires { ⌜ first < length (now keys) ⌝ }
+    requires { ⌜ prev < length (now keys) ⌝ }
+    requires { ⌜ last < length (now keys) ⌝ }
+    ensures { λ r. ⌜ r ≡ threeMerge allowance p (now (rows .entry)) (now (keys .entry)) k first prev last ⌝ }
+{
+    if key_places::are_two(keys, k, first, prev) {
+        return merge::three_merge(
+            side_parts::row(rows, p, last),
+            side_parts::row(rows, p, first),
+            side_parts::row(rows, p, prev),
+            allowance,
+        );
+    }
+    false
+}
+
+// Whether three or more series of a key become a single one, tried in turn: the first is tried on the last and put over
+// it, at the start of a work row, in one pass, and those between them, of which prev is the last, are merged into that.
+fn ensure_in_turn(
+    rows: &[u64],
+    keys: &[usize],
+    k: usize,
+    first: usize,
+    prev: usize,
+    last: usize,
+    p: usize,
+    allowance: usize,
+    work: &mut [u64],
+) -> Merges
+    requires { ⌜ RowsHeld p (now rows) (now keys) ⌝ }
+    requires { ⌜ KeyEnds (now keys) k first last ⌝ }
+    requires { ⌜ first < last ⌝ }
+    requires { ⌜ LastBetween (now keys) k first last prev ⌝ }
+    requires { ⌜ p ≤ length (now work) ⌝ }
+    ensures { λ r. ⌜ failedIn r ≡ failureOf (mergeLast allowance p (now (rows .entry)) (now (keys .entry)) k) ⌝ }
+    ensures { λ r. ⌜ length (now (work .exit)) ≡ length (now (work .entry)) ⌝ }
+{
+    if merge::put_merged(
+        &mut work[..p],
+        side_parts::row(rows, p, last),
+        side_parts::row(rows, p, first),
+        allowance,
+    ) {
+        return ensure_between(rows, keys, k, first + 1, prev, allowance, &mut work[..p]);
+    }
+    Merges::FailedAt(first)
+}
+
+// Whether three or more series of a key become a single one: at once where they are three that merge, else in turn.
 fn ensure_several(
     rows: &[u64],
     keys: &[usize],
@@ -91,15 +151,10 @@ fn ensure_several(
     ensures { λ r. ⌜ length (now (work .exit)) ≡ length (now (work .entry)) ⌝ }
 {
     let prev = key_places::last_of(&keys[..last], k);
-    if merge::put_merged(
-        &mut work[..p],
-        side_parts::row(rows, p, last),
-        side_parts::row(rows, p, first),
-        allowance,
-    ) {
-        return ensure_between(rows, keys, k, first + 1, prev, allowance, &mut work[..p]);
+    if three_merge(rows, keys, k, first, prev, last, p, allowance) {
+        return Merges::Done;
     }
-    Merges::FailedAt(first)
+    ensure_in_turn(rows, keys, k, first, prev, last, p, allowance, work)
 }
 
 // Whether several series of a key become a single one. Where they are two, the first is tried on the last with no copy.

@@ -34,7 +34,7 @@ use Rattle.pair_series.proofs.Two.{TwoOn, two-left, two-right}
 use Rattle.pair_plan.specs.declared.pair_checks.Checked.{Checked}
 use Rattle.pair_plan.specs.declared.pair_checks.Checked.the-variants as C
 use Rattle.pair_plan.specs.pair_checks.Checks.{failureOf, failedIn, TriedGroup}
-use Rattle.pair_plan.specs.pair_checks.Checks.{rowsMerge, twosMerge, clashIn, clashAt}
+use Rattle.pair_plan.specs.pair_checks.Checks.{rowsMerge, threeMerge, twosMerge, clashIn, clashAt}
 
 -- `row_merges`
 
@@ -66,36 +66,82 @@ module _ (want : RowMerge) (p : ℕ) (later : List ℕ) (r : Merges) (g : Merged
       pub prev-fails : m ≡ false → TriedGroup (thenRow want (mergeOne allowance p rows prev)) p later (FailedAt prev)
       prev-fails f = record { answer = rw (← g .answer, e, ← g .long, ← hs, ← hm, f); long = g .long }
 
--- `ensure_merges` and `ensure_several`
+-- `three_merge`
+
+pub row-there : (p : ℕ) (rows keys : List ℕ) → RowsHeld p rows keys → (i : ℕ) → i < length keys
+    → i * p + p ≤ length rows
+row-there p rows keys held i h = omega (arith, row-in i (length keys) p h, held .whole)
+
+module _ (allowance p : ℕ) (rows keys : List ℕ) (k first prev last : ℕ) (r : Bool)
+    (hr : r ≡ areTwo keys k first prev) where
+  pub not-three : r ≡ false → false ≡ threeMerge allowance p rows keys k first prev last
+  unfolding threeMerge
+  not-three f = rw (← hr, f)
+
+  pub three-told : r ≡ true → (x y z : List ℕ) → x ≡ rowAt p rows last → y ≡ rowAt p rows first
+      → z ≡ rowAt p rows prev → (b : Bool) → b ≡ (mergeable allowance x y && mergeable allowance (overwritten x y) z)
+      → b ≡ threeMerge allowance p rows keys k first prev last
+  unfolding threeMerge
+  three-told t x y z hx hy hz b hb = rw (← hr, t, ← hx, ← hy, ← hz) hb
+
+-- `ensure_in_turn`, `ensure_several` and `ensure_merges`
 
 module _ (allowance p : ℕ) (rows keys : List ℕ) (k first last : ℕ) (held : RowsHeld p rows keys)
     (e : KeyEnds keys k first last) (h : first < last) where
-  first-in : first < length keys
+  pub first-in : first < length keys
   first-in = several-stand keys k first last e h
 
-  last-in : last < length keys
+  pub last-in : last < length keys
   last-in = ends-within keys k first last e first-in
 
   pub last-there : last * p + p ≤ length rows
-  last-there = omega (arith, row-in last (length keys) p last-in, held .whole)
+  last-there = row-there p rows keys held last last-in
 
   pub first-there : first * p + p ≤ length rows
-  first-there = omega (arith, row-in first (length keys) p first-in, held .whole)
+  first-there = row-there p rows keys held first first-in
 
   pub last-inside : last ≤ length keys
   last-inside = omega (arith, last-in)
 
   -- the last series between them, where they are not two
+  pub prev-between : areTwo keys k first last ≡ false → (prev : ℕ) → prev ≡ lastOf (take last keys) k
+      → LastBetween keys k first last prev
+  prev-between t prev hp = third-between keys k first last last-inside h t prev hp
 
-  module _ (t : areTwo keys k first last ≡ false) (prev : ℕ) (hp : prev ≡ lastOf (take last keys) k) where
-    pub prev-between : LastBetween keys k first last prev
-    prev-between = third-between keys k first last last-inside h t prev hp
+  -- prev is the last between them: the first is merged, those up to prev, then prev
 
+  module _ (prev : ℕ) (b : LastBetween keys k first last prev) where
     pub prev-behind : first + 1 ≤ prev
-    prev-behind = omega (arith, prev-between .behind)
+    prev-behind = omega (arith, b .behind)
 
     pub prev-in : prev < length keys
-    prev-in = omega (arith, prev-between .before, last-in)
+    prev-in = omega (arith, b .before, last-in)
+
+    up-to-prev : mergedIf true (rowAt p rows last) (rowAt p rows first)
+        ≡ merged allowance (rowAt p rows last) (rowAt p rows first)
+        → mergeLast allowance p rows keys k
+        ≡ thenRow
+        (mergeGroup allowance p rows k (suc first) (keysBetween keys first prev)
+        (overwritten (rowAt p rows last) (rowAt p rows first)))
+        (mergeOne allowance p rows prev)
+    up-to-prev m =
+        several-merged allowance p rows k keys first last e h m
+        ∙ up-to-last allowance p rows k keys (suc first) prev last
+        (overwritten (rowAt p rows last) (rowAt p rows first)) (b .behind) (b .before) last-inside (b .key) (b .others)
+
+    pub three-fine : (r : Bool) → r ≡ threeMerge allowance p rows keys k first prev last → r ≡ true
+        → none ≡ failureOf (mergeLast allowance p rows keys k)
+    unfolding threeMerge
+    three-fine r told t =
+        let d = overwritten (rowAt p rows last) (rowAt p rows first) in
+        let tests = both-of _ _ (sym told ∙ t) in
+        let merge = both-of _ _ (tests .1) in
+        rw (
+          up-to-prev (sym (mergeable-merges allowance (rowAt p rows last) (rowAt p rows first) (merge .0))),
+          none-among allowance p rows k (keysBetween keys first prev) (suc first) d
+              (two-between keys k first prev (tests .0) (omega (arith, b .before, last-in))),
+          mergeable-merges allowance d (rowAt p rows prev) (merge .1),
+        )
 
   module _ (m : Bool)
       (hm : mergedIf m (rowAt p rows last) (rowAt p rows first)
@@ -163,11 +209,7 @@ module _ (allowance p : ℕ) (rows keys : List ℕ) (k first last : ℕ) (held :
             → LastBetween keys k first last prev → failedIn r ≡ failureOf (mergeLast allowance p rows keys k)
         between-told m hm t b =
             (rw (again, put-long, add-one first, hd, hx, hy) at (g .answer))
-            ∙ ap failureOf (sym
-            (several-merged allowance p rows k keys first last e h (rw (t, hx, hy) at hm)
-            ∙ up-to-last allowance p rows k keys (suc first) prev last
-            (overwritten (rowAt p rows last) (rowAt p rows first)) (b .behind) (b .before) last-inside (b .key)
-            (b .others)))
+            ∙ ap failureOf (sym (up-to-prev prev b (rw (t, hx, hy) at hm)))
 
 -- `ensure_single_timeseries`
 

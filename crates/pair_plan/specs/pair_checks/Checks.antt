@@ -5,6 +5,7 @@ use mathlib.Core.Bool.{Bool, cond, _&&_}
 use mathlib.Core.Option.{Option, none, some}
 use mathlib.Core.List.{List}
 use lib.ListN.{length}
+use Rattle.model.specs.Row.{overwritten}
 use Rattle.model.specs.Query as Model
 use Rattle.semantics.specs.Events.{Duplicate}
 use Rattle.plan.specs.Merging.{RowMerge, row, failedAt}
@@ -12,7 +13,7 @@ use Rattle.plan.specs.Pairs.{isPair, pairClash}
 use Rattle.side_parts.specs.Sides.{rowAt}
 use Rattle.side_parts.specs.Lent.{Sides}
 use Rattle.end_codes.specs.Codes.{leftFirst, leftLast, rightFirst, rightLast}
-use Rattle.key_places.specs.Two.{bothTwo}
+use Rattle.key_places.specs.Two.{areTwo, bothTwo}
 use Rattle.merge.specs.Merging.{mergeable}
 use Rattle.merging.specs.declared.Merges.{Merges}
 use Rattle.merging.specs.declared.Merges.the-variants.{Done, FailedAt}
@@ -38,6 +39,14 @@ pub record TriedGroup (want : RowMerge) (p : ℕ) (d : List ℕ) (r : Merges) : 
 -- whether the row `first` may be merged into the row `last`
 abbrev pub rowsMerge : ℕ → ℕ → List ℕ → ℕ → ℕ → Bool
 rowsMerge allowance p rows first last = mergeable allowance (rowAt p rows last) (rowAt p rows first)
+
+-- whether no other series of the key k stands between the places `first` and `prev`, and their rows may be merged, one
+-- after the other, into the row `last`
+unfoldable pub threeMerge : ℕ → ℕ → List ℕ → List ℕ → ℕ → ℕ → ℕ → ℕ → Bool
+threeMerge allowance p rows keys k first prev last =
+    areTwo keys k first prev
+    && (rowsMerge allowance p rows first last
+    && mergeable allowance (overwritten (rowAt p rows last) (rowAt p rows first)) (rowAt p rows prev))
 
 -- whether a code has exactly two series on each side, and they merge
 unfoldable pub twosMerge : ℕ → Sides → ℕ → Bool

@@ -1,71 +1,49 @@
 -- `ensure_several` meets its contract. Assumes nothing.
-use mathlib.Core.Path.{sym}
-use denote.Ref.{now}
+use mathlib.Core.Path.{refl, sym}
 use lib.Seq.{length-take-le}
-use Rattle.pair_plan.proofs.pair_checks.Checks.{last-there, first-there, last-inside, last-wide, first-wide}
-use Rattle.pair_plan.proofs.pair_checks.Checks.{prev-between, prev-behind, prev-in, put-fails, put-again}
-use Rattle.pair_plan.proofs.pair_checks.Checks.{put-part, put-room, between-long, between-told}
+use Rattle.pair_plan.proofs.pair_checks.Checks.{first-in, last-in, last-inside}
+use Rattle.pair_plan.proofs.pair_checks.Checks.{prev-between, prev-in, three-fine}
 use borrow.Author.Needs.{needs}
 use Rattle.pair_plan.proofs.pair_checks.ensure_several.Statement.{statement}
 use Rattle.pair_plan.proofs.pair_checks.ensure_several.Tie as tie
 
-slice-aggregate-ensure-between : tie.Need-slice-aggregate-ensure-between
-slice-aggregate-ensure-between c =
-    let put = c .before .before .before .before in
-    let found = put .before .before .before .before in
-    let start = found .before .before .before .before .before in
+three-merge-requires : tie.Need-three-merge-requires
+three-merge-requires c κs =
+    let start = c .before .before .before .before .before in
     let pre = start .pre in
-    put-part (start .args .allowance) _ _ _ _ _ _ (pre .0) (pre .1 .0) (pre .1 .1 .0) _ (pre .1 .1 .1 .1) _ _ _
-    (put .before .before .row .ensures) (put .before .row2 .ensures) (put .put-merged .ensures .1)
-
-ensure-between-requires : tie.Need-ensure-between-requires
-ensure-between-requires c κs =
-    let put = c .before .before .before .before in
-    let found = put .before .before .before .before in
-    let start = found .before .before .before .before .before in
-    let pre = start .pre in
-    let prev = found .last-of .ensures in
-    let a = start .args .allowance in (
-      prev-behind a _ _ _ _ _ _ (pre .0) (pre .1 .0) (pre .1 .1 .0) (pre .1 .1 .1 .0) _ prev,
+    let a = start .args .allowance in
+    let prev =
+    prev-between a _ _ _ _ _ _ (pre .0) (pre .1 .0) (pre .1 .1 .0) (pre .1 .1 .1 .0) _ (c .last-of .ensures) in (
+      pre .0,
       (
-        prev-in a _ _ _ _ _ _ (pre .0) (pre .1 .0) (pre .1 .1 .0) (pre .1 .1 .1 .0) _ prev,
-        put-room a _ _ _ _ _ _ (pre .0) (pre .1 .0) (pre .1 .1 .0) _ (pre .1 .1 .1 .1) _ _ _
-            (put .before .before .row .ensures) (put .before .row2 .ensures) (put .put-merged .ensures .1),
+        first-in a _ _ _ _ _ _ (pre .0) (pre .1 .0) (pre .1 .1 .0),
+        (
+          prev-in a _ _ _ _ _ _ (pre .0) (pre .1 .0) (pre .1 .1 .0) _ prev,
+          last-in a _ _ _ _ _ _ (pre .0) (pre .1 .0) (pre .1 .1 .0),
+        ),
       ),
     )
 
 returns : tie.Need-returns
 returns c =
-    let tried = c .before .before in
-    let put = tried .before .before .before .before .before in
-    let found = put .before .before .before .before in
+    let found = c .before .before in
     let start = found .before .before .before .before .before in
-    let pre = start .pre in
-    let x = put .before .before .row .ensures in
-    let y = put .before .row2 .ensures in
-    let d = put .put-merged .ensures .1 in
-    let told = tried .ensure-between .ensures in (
-      between-told _ _ _ _ _ _ _ (pre .0) (pre .1 .0) (pre .1 .1 .0) _ (pre .1 .1 .1 .1) _ _ _ x y d _ _ _ told _
-          (put .put-merged .ensures .0) (tried .before .before .if1 .taken)
+    let pre = start .pre in (
+      three-fine _ _ _ _ _ _ _ (pre .0) (pre .1 .0) (pre .1 .1 .0) _
           (prev-between (start .args .allowance) _ _ _ _ _ _ (pre .0) (pre .1 .0) (pre .1 .1 .0) (pre .1 .1 .1 .0) _
-          (found .last-of .ensures)),
-      between-long _ _ _ _ _ _ _ (pre .0) (pre .1 .0) (pre .1 .1 .0) _ (pre .1 .1 .1 .1) _ _ _ x y d _ _ _ told,
+          (found .last-of .ensures)) _ (c .before .three-merge .ensures) (c .if1 .taken),
+      refl,
     )
 
-returns-2 : tie.Need-returns-2
-returns-2 c =
-    let put = c .before .before .before in
-    let found = put .before .before .before .before in
+ensure-in-turn-requires : tie.Need-ensure-in-turn-requires
+ensure-in-turn-requires c κs =
+    let found = c .before .before .before in
     let start = found .before .before .before .before .before in
     let pre = start .pre in
-    let x = put .before .before .row .ensures in
-    let y = put .before .row2 .ensures in
-    let d = put .put-merged .ensures .1 in (
-      put-fails _ _ _ _ _ _ _ (pre .0) (pre .1 .0) (pre .1 .1 .0) _ _ x y _ (put .put-merged .ensures .0)
-          (c .if1 .left),
-      put-again (start .args .allowance) _ _ _ _ _ _ (pre .0) (pre .1 .0) (pre .1 .1 .0) (now (start .args .work))
-          (pre .1 .1 .1 .1) _ _ _ x y d,
-    )
+    let prev =
+    prev-between (start .args .allowance) _ _ _ _ _ _ (pre .0) (pre .1 .0) (pre .1 .1 .0) (pre .1 .1 .1 .0) _
+    (found .last-of .ensures) in
+    (pre .0, (pre .1 .0, (pre .1 .1 .0, (prev, pre .1 .1 .1 .1))))
 
 pub ensure-several-spec : {M : Type 1} → statement M
 ensure-several-spec =
@@ -73,16 +51,8 @@ ensure-several-spec =
     (tie.spec
     (λ c. sym (length-take-le _ _ (search last-inside)))
     (λ c κs. search needs)
-    (λ c. search needs)
-    (λ c. sym (length-take-le _ _ (search needs)))
-    (λ c κs. search last-there)
-    (λ c κs. search first-there)
-    (λ c κs. (search last-wide, search first-wide))
-    (λ c. search needs)
-    (λ c. search needs)
-    slice-aggregate-ensure-between
-    ensure-between-requires
-    (λ c. search needs)
+    three-merge-requires
     returns
+    ensure-in-turn-requires
     (λ c. search needs)
-    returns-2)
+    (λ c. search needs))
