@@ -11,7 +11,7 @@ fn main() {
     let archive = folder.join("libnosingcatnip.a");
     assert!(archive.is_file(), "{} is not there; `rt staticlib nosingcatnip` makes it", archive.display());
     println!("cargo:rerun-if-changed={}", archive.display());
-    // For the tests, which link a program in C.
+    // For the tests, which link programs in C.
     println!("cargo:rustc-env=NOSINGCATNIP_LIB={}", archive.display());
     println!("cargo:rustc-link-search=native={}", folder.display());
     println!("cargo:rustc-link-lib=static=nosingcatnip");

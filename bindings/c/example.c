@@ -1,6 +1,6 @@
-/* `/` of fed{press="A"} [10, missing, 6] and waste{press="A"} [2, 1, 3], an hour apart, through the header; then the same with the
- * right side a millisecond later, which is refused with 12, and with an allowance of 9, which is refused with 13 before that. Ends
- * with 0 where all is as it should be. */
+/* `/` of fed{press="A"} [10, missing, 6] and waste{press="A"} [2, 1, 3], an hour apart, through the header; then the
+ * same with the right side a millisecond later, which is refused with 12, and with an allowance of 9, which is refused
+ * with 13 before that. Ends with 0 where all is as it should be. */
 #include <math.h>
 #include <string.h>
 
@@ -25,22 +25,23 @@ int main(void) {
     const uint64_t rows[] = {bits(5), 0x7ff8000000000000, bits(2)};
     memset(labels, 187, sizeof labels);
     /* The arrays end with the string's 0, which is no part of the label part. */
-    nosingcatnip_exec_binop(query, sizeof query, fed, sizeof fed - 1, left, 3, waste, sizeof waste - 1, right, 3, labels,
-                            sizeof labels, out, 8, result);
+    nosingcatnip_exec_binop(query, sizeof query, fed, sizeof fed - 1, left, 3, waste, sizeof waste - 1, right, 3,
+                            labels, sizeof labels, out, 8, result);
     if (sizeof answered != sizeof result || memcmp(result, answered, sizeof result) != 0) return 1;
     if (result[NOSINGCATNIP_SERIES] != 1 || result[NOSINGCATNIP_POINTS] != 3 || result[NOSINGCATNIP_START] != 0 ||
         result[NOSINGCATNIP_STEP] != 3600000 || result[NOSINGCATNIP_LABEL_BYTES] != 10)
         return 2;
-    if (memcmp(labels, "\0\x01\x05press\x01" "A", 10) != 0 || labels[10] != 187 || memcmp(out, rows, sizeof rows) != 0) return 3;
+    if (memcmp(labels, "\0\x01\x05press\x01" "A", 10) != 0 || labels[10] != 187) return 3;
+    if (memcmp(out, rows, sizeof rows) != 0) return 4;
     waste[6] = 1;
     memset(labels, 187, sizeof labels);
-    nosingcatnip_exec_binop(query, sizeof query, fed, sizeof fed - 1, left, 3, waste, sizeof waste - 1, right, 3, labels,
-                            sizeof labels, out, 8, result);
-    if (memcmp(result, refused, sizeof result) != 0 || result[NOSINGCATNIP_NUMBER] != 12) return 4;
+    nosingcatnip_exec_binop(query, sizeof query, fed, sizeof fed - 1, left, 3, waste, sizeof waste - 1, right, 3,
+                            labels, sizeof labels, out, 8, result);
+    if (memcmp(result, refused, sizeof result) != 0 || result[NOSINGCATNIP_NUMBER] != 12) return 5;
     query[6] = 9;
     refused[NOSINGCATNIP_NUMBER] = 13;
-    nosingcatnip_exec_binop(query, sizeof query, fed, sizeof fed - 1, left, 3, waste, sizeof waste - 1, right, 3, labels,
-                            sizeof labels, out, 8, result);
-    if (memcmp(result, refused, sizeof result) != 0) return 5;
-    return labels[0] == 187 ? 0 : 6;
+    nosingcatnip_exec_binop(query, sizeof query, fed, sizeof fed - 1, left, 3, waste, sizeof waste - 1, right, 3,
+                            labels, sizeof labels, out, 8, result);
+    if (memcmp(result, refused, sizeof result) != 0) return 6;
+    return labels[0] == 187 ? 0 : 7;
 }

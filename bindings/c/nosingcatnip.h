@@ -1,7 +1,8 @@
-/* Labelled vector operators over series with gaps. docs/SCOPE.md of the project says what a query, a label part and a refusal are.
+/* Labelled vector operators over series with gaps. docs/SCOPE.md of the project says what a query, a label part and a
+ * refusal are.
  *
- * Link with libnosingcatnip.a and -lm. The function keeps nothing between calls, so calls on disjoint output parts may run at
- * the same time. */
+ * Link with libnosingcatnip.a and -lm. The function keeps nothing between calls, so calls on disjoint output parts may
+ * run at the same time. */
 #ifndef NOSINGCATNIP_H
 #define NOSINGCATNIP_H
 
@@ -27,19 +28,20 @@ enum {
 
 /* Runs a query over two vectors.
  *
- * Each part is a pointer and its number of elements. A label part begins with 18 bytes of sizes, little-endian: series, points and
- * length of the label array, two bytes each; start in milliseconds, eight bytes, 0 to 2^52; step in milliseconds, four bytes, 1 to
- * 86,400,000. Then it has the label array. Readings are the bits of binary64 numbers, row by row; any NaN is a missing reading.
- * Reading i of a row is of the time start + i * step; both sides have the same start and step, and so has the answer.
+ * Each part is a pointer and its number of elements. A label part begins with 18 bytes of sizes, little-endian: series,
+ * points and length of the label array, two bytes each; start in milliseconds, eight bytes, 0 to 2^52; step in
+ * milliseconds, four bytes, 1 to 86,400,000. Then it has the label array. Readings are the bits of binary64 numbers,
+ * row by row; any NaN is a missing reading. Reading i of a row is of the time start + i * step; both sides have the
+ * same start and step, and so has the answer.
  *
- * The query's last byte is its allowance, 0 to 8: at how many places a row that is merged may overlap the row merged so far. One
- * above 8 is refused with 13.
+ * The query's last byte is its allowance, 0 to 8: at how many places a row that is merged may overlap the row merged so
+ * far. One above 8 is refused with 13.
  *
- * An answer's label records are written at the start of out_labels and its rows at the start of out; what lies behind them
- * stays. A refusal changes neither part. All eight numbers of result are written at each call.
+ * An answer's label records are written at the start of out_labels and its rows at the start of out; what lies behind
+ * them stays. A refusal changes neither part. All eight numbers of result are written at each call.
  *
- * No pointer may be null, even where its length is 0; pointers to uint64_t are aligned to 8 bytes; out_labels, out and result
- * overlap no other part. */
+ * No pointer may be null, even where its length is 0; pointers to uint64_t are aligned to 8 bytes; out_labels, out and
+ * result overlap no other part. */
 void nosingcatnip_exec_binop(
     const uint8_t *query, size_t query_len,
     const uint8_t *left_labels, size_t left_labels_len,
