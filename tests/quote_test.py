@@ -1,89 +1,88 @@
-"""Tests of `quote`: python3 -m unittest discover -s tests -p '*_test.py'. Those of whole runs need target/bin/vecop, or the program that
-VECOP names; with VECOP empty they are left out."""
-import importlib.machinery
-import importlib.util
+"""Tests of `quote`: python3 -m unittest discover -s tests -p '*_test.py'. Those of whole runs need the library (built.py)."""
 import io
 import os
-import re
-import shlex
-import struct
+import random
 import tempfile
+import time
 import unittest
 from contextlib import redirect_stderr, redirect_stdout
 
-ROOT = os.path.dirname(os.path.dirname(os.path.realpath(__file__)))
-loader = importlib.machinery.SourceFileLoader('quote', os.path.join(ROOT, 'quote'))
-quote = importlib.util.module_from_spec(importlib.util.spec_from_loader('quote', loader))
-loader.exec_module(quote)
+import built
+import nosingcatnip
+import wire
+
+quote = built.program('quote')
 
 # the last time that a header may have, 2 to the 52nd
 LAST = '144683-05-23T16:29:30.496Z'
-VECOP = os.environ.get('VECOP', os.path.join(ROOT, 'target', 'bin', 'vecop'))
 
 
 class Queries(unittest.TestCase):
     def test_operators_are_numbered_in_order(self):
-        self.assertEqual(quote.encode_query('+'), bytes([0, 0, 0, 0, 0, 0, 2]))
-        self.assertEqual(quote.encode_query('unless'), bytes([18, 0, 0, 0, 0, 0, 2]))
-        self.assertEqual(quote.encode_query('ifnot'), bytes([13, 0, 0, 0, 0, 0, 2]))
+        self.assertEqual(nosingcatnip.encode_query('+'), bytes([0, 0, 0, 0, 0, 0, 2]))
+        self.assertEqual(nosingcatnip.encode_query('unless'), bytes([18, 0, 0, 0, 0, 0, 2]))
+        self.assertEqual(nosingcatnip.encode_query('ifnot'), bytes([13, 0, 0, 0, 0, 0, 2]))
 
     def test_modifiers(self):
-        self.assertEqual(quote.encode_query('/ on(press) group_left(form)'), b'\x04\x01\x01\x00\x01\x05press\x01\x04form\x02')
-        self.assertEqual(quote.encode_query('== bool ignoring(a, b)'), b'\x05\x02\x00\x02\x02\x01a\x01b\x00\x02')
-        self.assertEqual(quote.encode_query('* group_right(*) keep_metric_names'), b'\x07\x00\x02\x01\x00\x01\x01*\x02')
+        self.assertEqual(nosingcatnip.encode_query('/ on(press) group_left(form)'), b'\x04\x01\x01\x00\x01\x05press\x01\x04form\x02')
+        self.assertEqual(nosingcatnip.encode_query('== bool ignoring(a, b)'), b'\x05\x02\x00\x02\x02\x01a\x01b\x00\x02')
+        self.assertEqual(nosingcatnip.encode_query('* group_right(*) keep_metric_names'), b'\x07\x00\x02\x01\x00\x01\x01*\x02')
 
     def test_overlap(self):
         for allowed in range(9):
-            self.assertEqual(quote.encode_query(f'+ overlap({allowed})'), bytes([0, 0, 0, 0, 0, 0, allowed]))
+            self.assertEqual(nosingcatnip.encode_query(f'+ overlap({allowed})'), bytes([0, 0, 0, 0, 0, 0, allowed]))
         whole = b'\x05\x01\x01\x02\x01\x07overlap\x00\x04'
         for text in ['overlap(4) bool on(overlap) group_left', 'bool overlap ( 4 ) on(overlap) group_left()',
                      'bool on(overlap) overlap(4) group_left', 'bool on(overlap) group_left overlap(4)']:
             with self.subTest(text):
-                self.assertEqual(quote.encode_query('== ' + text), whole)
+                self.assertEqual(nosingcatnip.encode_query('== ' + text), whole)
 
     def test_mistakes_of_overlap(self):
         for text in ['9', '10', '255', '1.5', '-1', 'four', '', '2, 3', '0 4', '(4', '.', '1e0', '9' * 5000]:
-            with self.subTest(text[:9]), self.assertRaisesRegex(quote.Mistake, '^query: overlap takes a whole number from 0 to 8, not '):
-                quote.encode_query(f'+ overlap({text})')
+            with self.subTest(text[:9]), self.assertRaisesRegex(ValueError, '^query: overlap takes a whole number from 0 to 8, not '):
+                nosingcatnip.encode_query(f'+ overlap({text})')
         for text, what in [('overlap', r'\( is missing after overlap'), ('overlap 4', r'\( is missing after overlap'),
                            ('overlap on(a)', r'\( is missing after overlap'), ('overlap(4', r'\) is missing after overlap'),
                            ('overlap(4) overlap(4)', "did not expect 'overlap'"), ('4', "did not expect '4'")]:
-            with self.subTest(text), self.assertRaisesRegex(quote.Mistake, f'^query: {what}'):
-                quote.encode_query('+ ' + text)
+            with self.subTest(text), self.assertRaisesRegex(ValueError, f'^query: {what}'):
+                nosingcatnip.encode_query('+ ' + text)
 
     def test_mistakes(self):
         for text in ['', 'plus', '+ on', '+ on(a', '+ on(a b)', '+ on(a) on(b)', '+ group_left(a) group_right(a)', '+ $']:
-            with self.subTest(text), self.assertRaises(quote.Mistake):
-                quote.encode_query(text)
+            with self.subTest(text), self.assertRaisesRegex(ValueError, '^query: '):
+                nosingcatnip.encode_query(text)
 
 
-class Vectors(unittest.TestCase):
-    def test_tags_are_put_in_order(self):
-        self.assertEqual(quote.series_of('fed{press="A",form="1"} 10 6')[1], {b'form': b'1', b'press': b'A'})
+class Texts(unittest.TestCase):
+    def test_series(self):
+        for line, labels in [
+            ('fed{press="A",form="1"} 10 6', {'__name__': 'fed', 'press': 'A', 'form': '1'}),
+            (r'x{a="}",b="\"q\"",c="1,2 =3"} 10 6', {'__name__': 'x', 'a': '}', 'b': '"q"', 'c': '1,2 =3'}),
+            (r'x{"press no."="A","a\"}"="",b="1"} 10 6', {'__name__': 'x', 'press no.': 'A', 'a"}': '', 'b': '1'}),
+            ('fed 10 6', {'__name__': 'fed'}),
+            ('{a="1"} 10 6', {'a': '1'}),
+            ('{} 10 6', {}),
+        ]:
+            self.assertEqual(quote.series_of(line), (labels, [10, 6]))
 
-    def test_values_with_signs_of_the_form(self):
-        name, tags, row = quote.series_of(r'x{a="}",b="\"q\"",c="1,2 =3"} 1')
-        self.assertEqual((name, tags, row), (b'x', {b'a': b'}', b'b': b'"q"', b'c': b'1,2 =3'}, [1.0]))
-
-    def test_name_alone_and_tags_alone(self):
-        self.assertEqual(quote.series_of('fed 1 2')[:2], (b'fed', {}))
-        self.assertEqual(quote.series_of('{a="1"} 1')[:2], (b'', {b'a': b'1'}))
+    def test_readings(self):
+        row = quote.series_of('a 1 -2.5 1e3 inf - .5')[1]
+        self.assertEqual([wire.bits(x) for x in row], [wire.bits(x) for x in (1, -2.5, 1000, float('inf'), None, 0.5)])
+        for word in '1_000', '1,5', 'x', '--', '0x10':
+            with self.subTest(word), self.assertRaisesRegex(quote.Mistake, f"'{word}' is neither a number nor -"):
+                quote.series_of(f'a 1 {word}')
 
     def test_bytes(self):
-        vector = quote.read_vector('x', 'fed{press="A"} 10 - 6\n')
-        readings = struct.pack('<dQd', 10, 0x7FF8000000000000, 6)
-        sizes, labels = b'\x01\0\x03\0\x0d\0', b'\x03fed\x01\x05press\x01A'
-        hourly = b'\0\0\0\0\0\0\0\0\x80\xee\x36\0'
-        self.assertEqual(quote.encode_vector(vector, 3), sizes + hourly + labels + readings)
-        daily = b'\x02\x01\0\0\0\0\0\0\x00\x5c\x26\x05'
-        timed = quote.read_vector('x', 'from 1970-01-01T00:00:00.258Z every 1d\nfed{press="A"} 10 - 6\n')
-        self.assertEqual(quote.encode_vector(timed, 3), sizes + daily + labels + readings)
+        for header, grid in ('', (0, 3600000)), ('from 1970-01-01T00:00:00.258Z every 1d\n', (258, 86400000)):
+            lent = quote.read_text('x', header + 'fed{press="A"} 10 - 6\n').lent(None)
+            self.assertEqual(lent.part, wire.label_part(1, 3, [wire.record(b'fed', [(b'press', b'A')])], *grid))
+            self.assertEqual(lent.readings.tobytes(), wire.readings([wire.bits(10), wire.MISSING, wire.bits(6)]))
 
     def test_mistakes_name_their_line(self):
         for text, line in [('a 1\nb 1 2\n', 2), ('# note\n\na{x=1} 1\n', 3), ('a{x="1" 2\n', 1), ('a x\n', 1),
                            ('a{x="1",x="2"} 1\n', 1), ('a{__name__="b"} 1\n', 1), ('a 1\na{k="' + 'v' * 256 + '"} 1\n', 2)]:
             with self.subTest(text[:20]), self.assertRaisesRegex(quote.Mistake, f'^v.txt:{line}: '):
-                quote.read_vector('v.txt', text)
+                quote.read_text('v.txt', text)
 
 
 class Times(unittest.TestCase):
@@ -101,7 +100,7 @@ class Times(unittest.TestCase):
             (f'from {LAST} every 1440m', (2**52, 86400000)),
         ]:
             with self.subTest(text):
-                self.assertEqual(quote.read_vector('x', f'# note\n\n{text}\na 1\n').header, grid)
+                self.assertEqual(quote.read_text('x', f'# note\n\n{text}\na 1\n').header, grid)
                 self.assertEqual(quote.header_of(quote.grid_text(grid)), grid)
 
     def test_the_calendar(self):
@@ -118,12 +117,12 @@ class Times(unittest.TestCase):
             self.assertEqual(quote.grid_text((0, step)), f'from 1970-01-01T00:00Z every {text}')
 
     def test_without_a_header(self):
-        vector = quote.read_vector('x', 'a 1\n')
+        vector = quote.read_text('x', 'a 1\n')
         self.assertEqual((vector.header, vector.grid()), (None, (0, 3600000)))
 
     def test_series_named_as_a_header_begins(self):
-        vector = quote.read_vector('x', 'from{} 1\nevery{a="1"} 2\nfromage 3\n')
-        self.assertEqual([name for name, _, _ in vector.series], [b'from', b'every', b'fromage'])
+        vector = quote.read_text('x', 'from{} 1\nevery{a="1"} 2\nfromage 3\n')
+        self.assertEqual([labels['__name__'] for labels in vector.labels], ['from', 'every', 'fromage'])
 
     def test_mistakes_name_their_line_and_what_is_wrong(self):
         good = 'from 2026-03-02T06:00Z every 1h\n'
@@ -160,17 +159,109 @@ class Times(unittest.TestCase):
             ('a 1\n' + good, 2, 'a header behind a series'),
         ]:
             with self.subTest(text), self.assertRaisesRegex(quote.Mistake, f'^v.txt:{line}: .*{what}'):
-                quote.read_vector('v.txt', text)
+                quote.read_text('v.txt', text)
+
+
+class Sheets(unittest.TestCase):
+    """Files as spreadsheets write them."""
+    HEAD = 'press,form,2026-03-02 06:00,2026-03-02 07:00\n'
+
+    def read(self, text):
+        vector = quote.read_csv('v.csv', text)
+        return vector.header, [(labels, [None if x != x else x for x in row]) for labels, row in zip(vector.labels, vector.rows)]
+
+    def test_a_file(self):
+        grid = (1772431200000, 3600000)
+        series = [({'press': 'A', 'form': '1'}, [1000, None]), ({'press': 'A'}, [None, 2.5])]
+        for text in [
+            self.HEAD + 'A,1,1000,\nA,,-,2.5\n',
+            (self.HEAD + 'A,1,1000,\nA,,-,2.5\n').replace('\n', '\r\n'),
+            self.HEAD + '"A","1","1000",""\n\n,,,\nA, ,,2.5',
+            (self.HEAD + 'A,1,1000,\nA,,,2.5\n').replace(',', '\t'),
+            (self.HEAD + 'A,1,1000,\nA,,,2.5\n').replace(',', ';').replace('2.5', '2,5'),
+            'sep=;\n' + (self.HEAD + 'A,1,1000,\nA,,,2.5\n').replace(',', ';').replace('2.5', '2,5'),
+            self.HEAD.replace('\n', ',,\n') + 'A,1,1000,,,\nA,,,2.5,,\n',
+            'press,2026-03-02T06:00Z,2026-03-02 7:00:00,form\nA,1000,,1\nA,,2.5,\n',
+            'press,form,2026/03/02 06:00,2026/3/2 7:00\nA,1,1e3,\nA,,,+2.50\n',
+        ]:
+            with self.subTest(text):
+                self.assertEqual(self.read(text), (grid, series))
+
+    def test_names_quotes_and_days(self):
+        text = '__name__,"press, no.",2026-03-02,2026-03-03\nfed,"say ""A""\nand B",1,2\n'
+        self.assertEqual(self.read(text), ((1772409600000, 86400000), [({'__name__': 'fed', 'press, no.': 'say "A"\nand B'}, [1, 2])]))
+
+    def test_one_time_has_an_hour(self):
+        self.assertEqual(self.read('2026-03-02 06:15\n7\n'), ((1772432100000, 3600000), [({}, [7])]))
+
+    def test_headings_alone(self):
+        vector = quote.read_csv('v.csv', self.HEAD)
+        self.assertEqual((vector.header, vector.points, vector.rows), ((1772431200000, 3600000), 2, []))
+        self.assertEqual(vector.lent(7).part, wire.label_part(0, 2, [], 1772431200000, 3600000))
+
+    def test_columns_as_spreadsheets_name_them(self):
+        self.assertEqual([quote.column(place) for place in (0, 25, 26, 51, 52, 701, 702, 1023, 18278)],
+                         ['A', 'Z', 'AA', 'AZ', 'BA', 'ZZ', 'AAA', 'AMJ', 'AAAA'])
+
+    def test_mistakes_name_their_line_and_column(self):
+        for text, line, what in [
+            ('press,6,7\nA,1,2\n', 1, "column B: '6' is neither a time, as 2026-03-02 06:00, nor the name of a tag"),
+            ('press,06:00,07:00\n', 1, "column B: '06:00' is neither a time"),
+            ('press,02.03.2026 06:00\n', 1, "column B: '02.03.2026 06:00' is neither a time"),
+            ('press,2026-02-30 06:00\n', 1, 'there is no day 2026-02-30'),
+            ('press,2026-03-02 24:00\n', 1, 'there is no time of day 24:00Z'),
+            ('press,form\nA,1\n', 1, 'no heading is a time'),
+            ('press,press,2026-03-02\n', 1, 'column B: the tag press has a column before'),
+            ('p,2026-03-02 06:00,2026-03-02 07:00,2026-03-02 09:00\n', 1, 'column D: 2026-03-02T09:00Z does not follow .*07:00Z evenly'),
+            ('p,2026-03-02 07:00,2026-03-02 06:00\n', 1, 'column C: 2026-03-02T06:00Z does not follow'),
+            ('p,2026-03-02 07:00,2026-03-02 07:00\n', 1, 'column C: 2026-03-02T07:00Z does not follow'),
+            ('p,2026-03-02,2026-03-04\n', 1, 'the times are more than a day apart'),
+            (self.HEAD + 'A,1,1000\n', 2, '3 cells, where the headings have 4'),
+            (self.HEAD + 'A,1,1,2\nA,2,1,2,3\n', 3, 'column E has no heading'),
+            (self.HEAD + 'A,1,#N/A,2\n', 2, "'#N/A' is neither a number nor -"),
+            (self.HEAD + 'A,1,"1,5",2\n', 2, "'1,5' is neither a number nor -"),
+            (self.HEAD.replace(',', ';') + 'A;1;1.234;2\n', 2, 'a point in a number; where ; parts the cells'),
+            (self.HEAD.replace(',', ';') + 'A;1;1,234,5;2\n', 2, "'1.234.5' is neither a number"),
+            (self.HEAD + 'A,1,"1"x,2\n', 2, "expected after"),
+            (self.HEAD + 'A,' + 'v' * 256 + ',1,2\n', 2, 'is longer than 255 bytes'),
+            ('sep=;\n' + self.HEAD.replace(',', ';') + 'A;1;x;2\n', 3, "'x' is neither a number"),
+        ]:
+            with self.subTest(text), self.assertRaisesRegex(quote.Mistake, f'^v.csv:{line}: .*{what}'):
+                quote.read_csv('v.csv', text)
+        with self.assertRaisesRegex(quote.Mistake, '^v.csv: there are no headings'):
+            quote.read_csv('v.csv', '\n,,\n')
+
+    def test_answers_are_read_again(self):
+        series = [({'__name__': 'fed', 'a b': 'x,"y"\nz', 'c': '1'}, [0.1 + 0.2, None]), ({'c': '2'}, [1e300, -2])]
+        labels, rows = zip(*series)
+        for start, step in (1772431200000, 3600000), (1772431230500, 500), (1772409600000, 86400000):
+            text = quote.csv_text(nosingcatnip.Vector(labels, rows, start, step), False, [start, start + step])
+            self.assertEqual(self.read(text), ((start, step), series))
+        self.assertEqual(text.splitlines()[0], '__name__,a b,c,2026-03-02 00:00,2026-03-03 00:00')
+        answer = nosingcatnip.Vector([{'c': '1'}, {'c': '2'}], [[1, None], [2, None]])
+        self.assertEqual(quote.csv_text(answer, True, [0, 3600000]),
+                         '__name__,c,1970-01-01 00:00,1970-01-01 01:00\n,1,1,\n,2,2,\ntotal,,3,\n')
+
+    def test_files(self):
+        with tempfile.TemporaryDirectory() as folder:
+            path = os.path.join(folder, 'FED.CSV')
+            with open(path, 'wb') as file:
+                file.write(('\ufeff' + self.HEAD).encode() + 'Ä,1,1,2\n'.encode())
+            self.assertEqual(quote.read_file(path).labels, [{'press': 'Ä', 'form': '1'}])
+            with open(path, 'wb') as file:
+                file.write(self.HEAD.encode() + 'Ä,1,1,2\n'.encode('latin-1'))
+            with self.assertRaisesRegex(quote.Mistake, 'FED.CSV: byte 45 is not of UTF-8'):
+                quote.read_file(path)
 
 
 class Answers(unittest.TestCase):
     def test_table(self):
-        rows = quote.read_answer(['fed{press="A%20b"} 4014000000000000 7ff8000000000000', '{} 3fb999999999999a 4024000000000000'])
-        self.assertEqual(quote.table(rows, True), 'fed{press="A b"}    5   -\n{}                0.1  10\ntotal             5.1  10\n')
+        answer = nosingcatnip.Vector([{'__name__': 'fed', 'press': 'A b'}, {}], [[5, None], [0.1, 10]])
+        self.assertEqual(quote.table(answer, True), 'fed{press="A b"}    5   -\n{}                0.1  10\ntotal             5.1  10\n')
 
     def timed(self, row, start, step):
         """The table of a series x of such readings."""
-        return quote.table([(b'x', {}, [quote.wire.bits(x) for x in row])], False, [start + i * step for i in range(len(row))])
+        return quote.table(nosingcatnip.Vector([{'__name__': 'x'}], [row]), False, [start + i * step for i in range(len(row))])
 
     def test_columns_have_their_times(self):
         self.assertEqual(self.timed([1, 2, None], 1772431200000, 3600000),
@@ -206,71 +297,39 @@ class Answers(unittest.TestCase):
                          'x{}  123456.789      1\n')
 
     def test_no_series(self):
-        self.assertEqual(quote.table([], True), 'no series\n')
-        self.assertEqual(quote.table([], True, [0, 1]), 'no series\n')
+        nothing = nosingcatnip.Vector([], [], points=2)
+        self.assertEqual(quote.table(nothing, True), 'no series\n')
+        self.assertEqual(quote.table(nothing, True, [0, 1]), 'no series\n')
 
     def test_no_points(self):
-        self.assertEqual(quote.table([(b'x', {}, [])], False, []), 'x{}\n')
-
-    def test_refusals_name_series(self):
-        sides = [quote.read_vector('l', 'a{f="1"} 1\na{f="2"} 2\n'), quote.read_vector('r', 'b 1\n')]
-        self.assertIn('left series 1, a{f="1"} cannot be merged into left series 2, a{f="2"}', quote.refusal(7, 1, 0, sides))
-        self.assertIn('different numbers of points', quote.refusal(6, 0, 0, sides))
-
-    def test_refusals_say_what_overlaps(self):
-        def told(points, allowed):
-            sides = [quote.read_vector('l', 'a 1\n'), quote.read_vector('r', 2 * ('b' + ' 1' * points + '\n'))]
-            return quote.refusal(8, 0, 1, sides, allowed)
-        key = 'right series 2, b{} cannot be merged into right series 1, b{}: they have the same key, and '
-        for allowed in 0, 1, 2, 4:
-            self.assertEqual(told(3, allowed), f'{key}its readings overlap those merged so far at more points than the {allowed} allowed; '
-                                               'overlap(N) in the query allows N, up to 8')
-        self.assertTrue(told(9, 8).endswith('at more points than the 8 allowed'))
-        for points in 0, 1, 2:
-            for allowed in 0, 2, 8:
-                self.assertEqual(told(points, allowed), key + 'series of two points or fewer are never merged')
-        self.assertEqual(quote.refusal(13, 0, 0, []), 'the query allows more than 8 overlapping points')
+        self.assertEqual(quote.table(nosingcatnip.Vector([{'__name__': 'x'}], [[]]), False, []), 'x{}\n')
 
     def test_refusals_name_grids(self):
         hourly, quarters = 'from 2026-03-02T06:00Z every 1h\na 1\n', 'from 2026-03-02T06:00Z every 15m\na 1\n'
-        text = quote.refusal(12, 0, 0, [quote.read_vector('l.txt', hourly), quote.read_vector('r.txt', quarters)])
+        text = quote.unlike_grids([quote.read_text('l.txt', hourly), quote.read_text('r.txt', quarters)])
         self.assertTrue(text.endswith('l.txt has from 2026-03-02T06:00Z every 1h; r.txt has from 2026-03-02T06:00Z every 15m'), text)
         for paths in ('l.txt', 'r.txt'), ('r.txt', 'l.txt'):
-            sides = [quote.read_vector(path, hourly if path == 'l.txt' else 'a 1\n') for path in paths]
-            text = quote.refusal(12, 0, 0, sides)
+            sides = [quote.read_text(path, hourly if path == 'l.txt' else 'a 1\n') for path in paths]
+            text = quote.unlike_grids(sides)
             self.assertIn('l.txt has from 2026-03-02T06:00Z every 1h', text)
             self.assertIn('r.txt has no header, which stands for from 1970-01-01T00:00Z every 1h', text)
             self.assertTrue(text.endswith('put the line from 2026-03-02T06:00Z every 1h into r.txt too'), text)
-        self.assertIn(f'the right vector starts past {LAST}', quote.refusal(11, 1, 0, sides))
 
 
-@unittest.skipUnless(os.path.exists(VECOP), 'target/bin/vecop is not built')
+@built.needs_library
 class Runs(unittest.TestCase):
-    def quoted(self, query, left, right, *more):
+    def quoted(self, query, left, right, *more, form='txt'):
         out, errors = io.StringIO(), io.StringIO()
         with tempfile.TemporaryDirectory() as folder, redirect_stdout(out), redirect_stderr(errors):
-            paths = [os.path.join(folder, name) for name in ('left.txt', 'right.txt')]
+            paths = [os.path.join(folder, f'{name}.{form}') for name in ('left', 'right')]
             for path, text in zip(paths, (left, right)):
                 with open(path, 'w', encoding='utf-8') as file:
                     file.write(text)
-            status = quote.main([query, *paths, '--vecop', VECOP, *more])
+            status = quote.main([query, *paths, *more])
         return status, out.getvalue(), errors.getvalue()
 
     def test_the_scope_document_s_example(self):
         self.assertEqual(self.quoted('/', 'fed{press="A"} 10 - 6\n', 'waste{press="A"} 2 1 3\n'), (0, '{press="A"}  5  -  2\n', ''))
-
-    def test_the_readme_s_quotes(self):
-        with open(os.path.join(ROOT, 'README.md'), encoding='utf-8') as file:
-            blocks = re.findall(r'(?:^    .*\n)+', file.read(), re.M)
-        quotes = [(command, printed) for command, printed in zip(blocks, blocks[1:]) if './quote' in command]
-        self.assertEqual(len(quotes), 2)
-        for command, printed in quotes:
-            query, *words = shlex.split(command.partition('./quote')[2])
-            paths = [os.path.join(ROOT, word) if word.endswith('.txt') else word for word in words]
-            out = io.StringIO()
-            with self.subTest(command.strip()), redirect_stdout(out):
-                self.assertEqual(quote.main([query, *paths, '--vecop', VECOP]), 0)
-                self.assertEqual(out.getvalue(), re.sub('^    ', '', printed, flags=re.M))
 
     def test_every_form_gets_the_shared_rate(self):
         left = ''.join(f'fed{{press="A",form="{i}"}} {i}\n' for i in range(1, 7))
@@ -278,8 +337,9 @@ class Runs(unittest.TestCase):
         self.assertEqual((status, len(text.splitlines()), text.splitlines()[-1].split()), (0, 7, ['total', '10.5']))
 
     def test_refusals(self):
-        self.assertEqual(self.quoted('+', 'a 1 2\n', 'a 1\n')[:2], (1, 'refused: the two sides have different numbers of points\n'))
-        self.assertEqual(self.quoted('^', 'a 1\n', 'a 1\n')[:2], (1, 'refused: this operator is not carried\n'))
+        points = 'refused: the two sides have different numbers of points: the left 2, the right 1\n'
+        self.assertEqual(self.quoted('+', 'a 1 2\n', 'a 1\n')[:2], (1, points))
+        self.assertEqual(self.quoted('^', 'a 1\n', 'a 1\n')[:2], (1, 'refused: ^ is no operator that is carried\n'))
         self.assertIn('cannot be merged', self.quoted('+ on()', 'a{f="1"} 1 1 1\na{f="2"} 1 1 1\n', 'b 1 1 1\n')[1])
 
     def test_overlap(self):
@@ -291,7 +351,7 @@ class Runs(unittest.TestCase):
         self.assertIn('series of two points or fewer are never merged', self.quoted('+ on() overlap(8)', 'a 1 -\nb - 1\n', 'c 1 1\n')[1])
         with tempfile.TemporaryDirectory() as folder, redirect_stderr(io.StringIO()) as errors:
             nothing = os.path.join(folder, 'none')
-            self.assertEqual(quote.main(['+ overlap(9)', nothing, nothing, '--vecop', nothing]), 2)
+            self.assertEqual(quote.main(['+ overlap(9)', nothing, nothing]), 2)
         self.assertIn('a whole number from 0 to 8', errors.getvalue())
 
     def test_times(self):
@@ -314,7 +374,61 @@ class Runs(unittest.TestCase):
             self.assertEqual(status, 1)
             self.assertRegex(text, '^refused: the two sides are not of the same times: ')
         status, text, _ = self.quoted('+', header + 'a 1 2\n', 'a 1\n')
-        self.assertEqual((status, text), (1, 'refused: the two sides have different numbers of points\n'))
+        self.assertEqual((status, text), (1, 'refused: the two sides have different numbers of points: the left 2, the right 1\n'))
+
+    def test_sheets(self):
+        left = 'press,form,2026-03-02 06:00,2026-03-02 07:00\nA,1,1000,1200\nA,2,800,\n'
+        right = 'press,2026-03-02 06:00,2026-03-02 07:00\nA,0.5,0.25\n'
+        self.assertEqual(self.quoted('* on(press) group_left()', left, right, '--csv', form='csv'), (
+            0, 'form,press,2026-03-02 06:00,2026-03-02 07:00\n1,A,500,300\n2,A,400,\n', ''))
+        self.assertEqual(self.quoted('* on("press") group_left()', left, right, '--total', form='csv'), (
+            0,
+            '                      2026-03-02\n'
+            'UTC                   06:00  07:00\n'
+            '{form="1",press="A"}    500    300\n'
+            '{form="2",press="A"}    400      -\n'
+            'total                   900    300\n',
+            ''))
+        status, text, _ = self.quoted('+', left, right.replace('2026-03-02', '2026-03-03'), form='csv')
+        self.assertEqual(status, 1)
+        self.assertIn('left.csv has from 2026-03-02T06:00Z every 1h', text)
+
+    def test_refusals_in_words(self):
+        """Each refusal that a file and a query as people write them can get."""
+        bare = 'a{f="1"} 1 1 1\na{f="2"} 1 1 1\n'
+        many = ''.join(f'a{{f="{i}"}} 1\n' for i in range(513))
+        tags = 'a{' + ','.join(f't{i:02}="1"' for i in range(33)) + '} 1\n'
+        for query, left, right, words in [
+            ('^', 'a 1\n', 'a 1\n', '^ is no operator that is carried'),
+            ('+', many, 'a 1\n', 'the left vector has 513 series; a vector has at most 512'),
+            ('+', 'a 1\n', 'a' + ' 1' * 1025 + '\n', 'the right vector has 1025 points; a vector has at most 1024'),
+            ('+', 'b 1\n' + tags, 'a 1\n', 'left series 2, ' + tags[:-3] + ', has more than 32 tags'),
+            ('+ on()', bare, 'b 1 1 1\n', 'left series 1, a{f="1"}, cannot be merged into left series 2, a{f="2"}: '
+             'they have the same key, and its readings overlap those merged so far at more points than the 2 allowed; '
+             'overlap(N) in the query allows N, up to 8'),
+            ('+ on() overlap(1)', 'b 1 1 1\n', bare, 'right series 1, a{f="1"}, cannot be merged into right series 2, a{f="2"}: '
+             'they have the same key, and its readings overlap those merged so far at more points than the 1 allowed; '
+             'overlap(N) in the query allows N, up to 8'),
+            ('or', many.partition('\n')[2], 'b 1\n', 'the answer has over 512 series, 32 tags in a series or 65,535 label bytes'),
+        ]:
+            with self.subTest(words[:40]):
+                self.assertEqual(self.quoted(query, left, right), (1, f'refused: {words}\n', ''))
+
+    def test_a_year_is_priced_within_a_second(self):
+        """256 series of 1,024 points on both sides, far beyond what vecop takes."""
+        random.seed(3)
+        files = []
+        for name in 'fed', 'waste':
+            rows = ([f'{random.uniform(1, 2000):.2f}' if random.random() < .8 else '-' for _ in range(1024)] for _ in range(256))
+            lines = (f'{name}{{press="{i // 8}",form="{i % 8}"}} {" ".join(row)}\n' for i, row in enumerate(rows))
+            files.append('from 2026-01-01 every 8h\n' + ''.join(lines))
+        begun = time.process_time()
+        status, text, _ = self.quoted('/ on(press, form)', *files)
+        self.assertLess(time.process_time() - begun, 1)
+        self.assertEqual((status, len(text.splitlines())), (0, 258))
+        left, right = (line.split()[1:] for line in (files[0].splitlines()[77], files[1].splitlines()[77]))
+        by_hand = ['-' if '-' in pair else format(float(pair[0]) / float(pair[1]), '.12g') for pair in zip(left, right)]
+        self.assertEqual(text.splitlines()[78].split()[1:], by_hand)
 
     def test_mistakes_end_in_2(self):
         status, _, errors = self.quoted('+', 'a 1\nb x\n', 'a 1\n')

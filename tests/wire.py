@@ -1,8 +1,9 @@
 """The bytes of the scope document (docs/SCOPE.md), encoded: fields, lists, queries, records, sizes, vectors, and the input of `vecop`.
 
-One place for all that writes them in Python: the generators of tests/expected, `quote` and oracle/promtool.py. Nothing is checked
-here but that a number fits its bytes, so that what a call refuses can be encoded too. Integers are little-endian. A vector whose grid is
-not told has a reading an hour, from 0 on; a query whose allowance is not told has that of 01's examples."""
+One place for all test data that is written in Python: the generators of tests/expected, the tests, and oracle/promtool.py. The
+module `nosingcatnip` encodes by itself, and its tests hold it against this. Nothing is checked here but that a number fits its
+bytes, so that what a call refuses can be encoded too. Integers are little-endian. A vector whose grid is not told has a reading an
+hour, from 0 on; a query whose allowance is not told has that of 01's examples."""
 import struct
 
 METRIC_GROUP = b'__name__'

@@ -17,14 +17,7 @@ int main(void) {
     /* a string ends with a 0 that is no part of the label part */
     nosingcatnip_exec_binop(query, sizeof query, fed, sizeof fed - 1, left.bits, 3, waste, sizeof waste - 1,
                             right.bits, 3, labels, sizeof labels, out.bits, 3, result);
-    if (result[NOSINGCATNIP_NUMBER] != 0) {
-        printf("refused %d\n", (int)result[NOSINGCATNIP_NUMBER]);
-        return 1;
-    }
-    for (int i = 0; i < 3; i++) {
-        if (isnan(out.number[i])) printf("-");
-        else printf("%g", out.number[i]);
-        putchar(i < 2 ? ' ' : '\n');
-    }
-    return 0;
+    if (result[NOSINGCATNIP_NUMBER] == 0)
+        printf("%g %g %g\n", out.number[0], out.number[1], out.number[2]);
+    return (int)result[NOSINGCATNIP_NUMBER];
 }

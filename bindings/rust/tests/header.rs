@@ -1,43 +1,21 @@
-//! The header, by programs in C, and the call, by what each number and part of a result comes to.
+//! The header, by a program in C, and the call, by what each number and part of a result comes to.
 use std::path::Path;
-use std::process::{Command, Output};
+use std::process::Command;
 
 use nosingcatnip::{exec_binop, Answer, Refusal, Side};
 
-/// What a program in bindings/c does.
-fn run_c(name: &str) -> Output {
-    let folder = Path::new(env!("CARGO_MANIFEST_DIR")).join("../c");
-    let program = Path::new(env!("CARGO_TARGET_TMPDIR")).join(name);
+#[test]
+fn a_program_in_c_runs_the_example() {
+    let program = Path::new(env!("CARGO_TARGET_TMPDIR")).join("example");
     let built = Command::new("cc")
         .args(["-std=c99", "-Wall", "-Wextra", "-Werror"])
-        .arg(folder.join(name).with_extension("c"))
+        .arg(Path::new(env!("CARGO_MANIFEST_DIR")).join("../c/example.c"))
         .arg(Path::new(env!("NOSINGCATNIP_LIB")))
         .args(["-lm", "-o"])
         .arg(&program)
         .status();
     assert!(built.expect("a C compiler").success());
-    Command::new(program).output().expect("the program")
-}
-
-#[test]
-fn a_program_in_c_runs_the_example() {
-    assert_eq!(run_c("example").status.code(), Some(0));
-}
-
-#[test]
-fn the_quote_in_c_prints_its_readings() {
-    let ran = run_c("quote");
-    assert_eq!((ran.status.code(), &ran.stdout[..]), (Some(0), &b"5 - 2\n"[..]));
-}
-
-#[test]
-fn the_quote_in_rust_prints_its_series() {
-    let ran = Command::new(env!("CARGO"))
-        .args(["run", "--quiet", "--offline", "--example", "quote"])
-        .current_dir(env!("CARGO_MANIFEST_DIR"))
-        .output()
-        .expect("cargo");
-    assert_eq!((ran.status.code(), &ran.stdout[..]), (Some(0), &b"{press=\"A\"} 5 - 2\n"[..]));
+    assert_eq!(Command::new(program).status().expect("the program").code(), Some(0));
 }
 
 /// A label part of one series without name and tags.

@@ -1,0 +1,502 @@
+"""Labelled vector operators over series with gaps: the proved library, from Python.
+
+A vector has a mapping of labels and a row of readings for each of its series; None or NaN is a missing reading. A query
+is written as people write it:
+
+>>> import nosingcatnip
+>>> fed = nosingcatnip.Vector([{'__name__': 'fed', 'press': 'A'}], [[10, None, 6]])
+>>> waste = nosingcatnip.Vector([{'__name__': 'waste', 'press': 'A'}], [[2, 1, 3]])
+>>> answer = nosingcatnip.exec_binop('/ on(press)', fed, waste)
+>>> print(answer)
+{press="A"} 5 - 2
+>>> answer.labels
+[{'press': 'A'}]
+>>> [row.tolist() for row in answer.rows]
+[[5.0, nan, 2.0]]
+
+Where there is no answer there is one refusal, with the scope document's number and fields (docs/SCOPE.md, "Numbers"), in words:
+
+>>> twice = nosingcatnip.Vector([{'form': '1'}, {'form': '2'}], [[1, 2, 3], [4, 5, 6]])
+>>> nosingcatnip.exec_binop('+ on()', twice, waste)
+Traceback (most recent call last):
+    ...
+nosingcatnip.Refusal: left series 1, {form="1"}, cannot be merged into left series 2, {form="2"}: they have the same \
+key, and its readings overlap those merged so far at more points than the 2 allowed; overlap(N) in the query allows N, \
+up to 8
+
+Rows may lie in any buffer of 64-bit floats, an array or a numpy array: they are read where they lie, not copied.
+
+>>> from array import array
+>>> rate = nosingcatnip.Vector([{}], array('d', [0.5, 0.5, 0.25]))
+>>> print(nosingcatnip.exec_binop('* on() group_left()', twice, rate))
+{form="1"} 0.5 1 0.75
+{form="2"} 2 2.5 1.5
+
+The module is this one file, over a shared library that `bindings/build` makes: the file that NOSINGCATNIP_LIBRARY names,
+else libnosingcatnip.so beside this file, else in target/sharedlib of the repository. It is loaded at the first call.
+"""
+import contextlib
+import ctypes
+import functools
+import math
+import os
+import re
+import struct
+from array import array
+
+__all__ = ['Refusal', 'Vector', 'encode_query', 'encode_record', 'exec_binop', 'label_text', 'number_text']
+
+NAME = '__name__'
+HOUR = 3600000
+OPERATORS = (
+    '+', 'and', 'atan2', 'default', '/', '==', '%', '*', '^', '-', '>', '>=', 'if', 'ifnot', '<', '<=', '!=', 'or', 'unless')
+
+# The scope document's limits. What a call is given is held to them by the library, not here.
+MAX_SERIES, MAX_POINTS, MAX_TAGS, MAX_LABEL_BYTES, MAX_ALLOWANCE = 512, 1024, 32, 65535, 8
+MAX_START, MAX_STEP = 2**52, 24 * HOUR
+# The overlap allowed by a query that does not say.
+ALLOWANCE = 2
+
+SIZES = struct.Struct('<HHHQI')
+
+
+class Refusal(ValueError):
+    """The library's refusal of a call: its number, 1 to 13, its two fields, and as text what it means, with the series
+    that it is about by side, place and labels."""
+
+    def __init__(self, number, fields, words):
+        super().__init__(words)
+        self.number, self.fields = number, fields
+
+
+# queries
+
+WORD = re.compile(r'\s*(==|!=|>=|<=|[-+*/%^<>]|[A-Za-z_][A-Za-z0-9_]*|[0-9.]+|[(),]|"(?:[^"\\]|\\.)*")')
+ESCAPES = {'n': '\n', '"': '"', '\\': '\\'}
+
+
+def unescaped(text):
+    """What stands between quotation marks, with its escapes \\" \\\\ and \\n resolved."""
+    return re.sub(r'\\(.)', lambda e: ESCAPES.get(e.group(1), e.group(1)), text)
+
+
+def _words(text):
+    at, found = 0, []
+    text = text.rstrip()
+    while at < len(text):
+        m = WORD.match(text, at)
+        if not m:
+            raise ValueError(f'query: cannot read {text[at:].strip()!r}')
+        found.append(m.group(1))
+        at = m.end()
+    return found
+
+
+def _label_list(found, after):
+    """The labels in parentheses at the front of the words, which are used up."""
+    if not found or found.pop(0) != '(':
+        raise ValueError(f'query: ( is missing after {after}')
+    labels = []
+    while found and found[0] != ')':
+        label = found.pop(0)
+        if label in '(,' or not (label == '*' or re.match(r'[A-Za-z_"]', label)):
+            raise ValueError(f'query: {label!r} is no label')
+        labels.append(unescaped(label[1:-1]) if label[0] == '"' else label)
+        if found and found[0] == ',':
+            found.pop(0)
+        elif found and found[0] != ')':
+            raise ValueError(f'query: a comma is missing before {found[0]!r}')
+    if not found:
+        raise ValueError(f'query: ) is missing after {after}')
+    found.pop(0)
+    return labels
+
+
+def _allowance(found):
+    """The number of points in parentheses at the front of the words, which are used up."""
+    if found[:1] != ['(']:
+        raise ValueError('query: ( is missing after overlap')
+    if ')' not in found:
+        raise ValueError('query: ) is missing after overlap')
+    end = found.index(')')
+    number = ' '.join(found[1:end])
+    del found[:end + 1]
+    if number not in map(str, range(MAX_ALLOWANCE + 1)):
+        raise ValueError(f'query: overlap takes a whole number from 0 to {MAX_ALLOWANCE}, not {number!r}')
+    return int(number)
+
+
+def _field(content):
+    """A length byte and so many bytes."""
+    if len(content) > 255:
+        raise ValueError(f'{content[:20]!r}... is longer than 255 bytes')
+    return bytes([len(content)]) + content
+
+
+def _listed(labels):
+    """A list of a query, encoded."""
+    if len(labels) > MAX_TAGS:
+        raise ValueError(f'query: a list has more than {MAX_TAGS} labels')
+    if '' in labels:
+        raise ValueError('query: a label is empty')
+    try:
+        return bytes([len(labels)]) + b''.join(_field(_data(label)) for label in labels)
+    except ValueError as problem:
+        raise ValueError(f'query: {problem}') from None
+
+
+def encode_query(text):
+    """The bytes of a query written as people write it: an operator, then modifiers in any order, each at most once.
+
+    on(a, b)  ignoring(a, b)            the labels that make the key; at most one of the two
+    group_left(a)  group_right(a)       a join, with the labels that it copies, or * for all; at most one of the two
+    bool  keep_metric_names  overlap(4)
+
+    A label that is no plain word is written in quotation marks, as on("press no.").
+
+    >>> encode_query('/ on(press) group_left(form)').hex(' ')
+    '04 01 01 00 01 05 70 72 65 73 73 01 04 66 6f 72 6d 02'
+    """
+    found = _words(text)
+    if not found:
+        raise ValueError('query: an operator is missing')
+    name = found.pop(0)
+    if name.lower() not in OPERATORS:
+        raise ValueError(f'query: {name!r} is no operator; there are {" ".join(OPERATORS)}')
+    matching, matched, join, joined, flags, overlap = 0, [], 0, [], 0, None
+    while found:
+        word = found.pop(0)
+        if word == 'bool' and not flags & 2:
+            flags |= 2
+        elif word == 'keep_metric_names' and not flags & 1:
+            flags |= 1
+        elif word in ('on', 'ignoring') and not matching:
+            matching, matched = (1 if word == 'on' else 2), _label_list(found, word)
+        elif word in ('group_left', 'group_right') and not join:
+            join = 1 if word == 'group_left' else 2
+            joined = _label_list(found, word) if found[:1] == ['('] else []
+        elif word == 'overlap' and overlap is None:
+            overlap = _allowance(found)
+        else:
+            raise ValueError(f'query: did not expect {word!r}')
+    head = bytes([OPERATORS.index(name.lower()), matching, join, flags])
+    return head + _listed(matched) + _listed(joined) + bytes([ALLOWANCE if overlap is None else overlap])
+
+
+# vectors
+
+def _data(text):
+    """A label's bytes, of text or of bytes. Text that was read from bytes which are no UTF-8 gives these again."""
+    return text.encode('utf-8', 'surrogateescape') if isinstance(text, str) else bytes(text)
+
+
+def _text(data):
+    return data.decode('utf-8', 'surrogateescape')
+
+
+PLAIN = re.compile(r'[^\s{}",=\\]+')
+
+
+def label_text(labels):
+    """The labels of a series as people write them; a key that is no plain word is in quotation marks too.
+
+    >>> label_text({'__name__': 'fed', 'press': 'A', 'paper stock': '120 g'})
+    'fed{press="A","paper stock"="120 g"}'
+    """
+    def shown(text):
+        return _data(text).decode('utf-8', 'backslashreplace')
+
+    def quoted(text):
+        return '"' + text.replace('\\', r'\\').replace('"', r'\"').replace('\n', r'\n') + '"'
+    fields = {shown(key): shown(value) for key, value in labels.items()}
+    name = fields.pop(NAME, '')
+    tags = (f'{key if PLAIN.fullmatch(key) else quoted(key)}={quoted(value)}' for key, value in fields.items())
+    return f'{name}{{{",".join(tags)}}}'
+
+
+def number_text(x):
+    """A reading in the fewest digits that give it again; - where it is missing."""
+    text = repr(float(x))
+    return '-' if text == 'nan' else text[:-2] if text.endswith('.0') else text
+
+
+def encode_record(labels):
+    """The label record of a series. ValueError where no record can say it."""
+    fields = {_data(key): _data(value) for key, value in labels.items()}
+    if len(fields) < len(labels):
+        raise ValueError('a tag stands twice')
+    name = fields.pop(NAME.encode(), b'')
+    if len(fields) > 255:
+        raise ValueError('there are more than 255 tags')
+    return _field(name) + bytes([len(fields)]) + b''.join(_field(key) + _field(fields[key]) for key in sorted(fields))
+
+
+def _label_array(labels):
+    records = []
+    for number, each in enumerate(labels, 1):
+        try:
+            records.append(encode_record(each))
+        except ValueError as problem:
+            raise ValueError(f'series {number}: {problem}') from None
+    return b''.join(records)
+
+
+def _decoded(records):
+    """The labels of the records, one after another."""
+    at, found = 0, []
+
+    def field():
+        nonlocal at
+        end = at + 1 + records[at]
+        content, at = _text(records[at + 1:end]), end
+        return content
+    while at < len(records):
+        name = field()
+        labels, at, count = ({NAME: name} if name else {}), at + 1, records[at]
+        for _ in range(count):
+            key = field()
+            labels[key] = field()
+        found.append(labels)
+    return found
+
+
+def _flat(view):
+    """The readings of a buffer, one after another, where they lie."""
+    if view.format not in ('d', '@d'):
+        raise TypeError(f'readings are 64-bit floats, format d; this buffer has format {view.format}')
+    if not view.c_contiguous:
+        raise ValueError('the rows do not lie one behind the other in memory')
+    return view if view.ndim == 1 else view.cast('B').cast('d') if view.nbytes else memoryview(array('d'))
+
+
+def _copied(rows, points):
+    """The readings of rows of numbers, None for a missing one, one after another; and how many a row has."""
+    flat = array('d')
+    for number, row in enumerate(rows, 1):
+        row = list(row)
+        if points is None:
+            points = len(row)
+        if len(row) != points:
+            raise ValueError(f'row {number} has {len(row)} readings, not {points}')
+        flat.extend(math.nan if x is None else x for x in row)
+    return memoryview(flat), points or 0
+
+
+class Vector:
+    """Series with readings at the same times.
+
+    labels  a mapping for each series: its tags, and under __name__ its name where it has one; str, or bytes
+    rows    a row for each series, of numbers, with None or NaN where a reading is missing; or one buffer of 64-bit
+            floats (array, numpy), row by row in one or two dimensions, which is read where it lies at each call
+    start   the time of the first reading in a row, in milliseconds
+    step    the time from a reading to the next, in milliseconds
+    points  the number of readings in a row; to be given where there is no series to tell it
+
+    An answer is one too. Of any vector `labels` is a list of dicts of str, `readings` one buffer of 64-bit floats, where
+    missing ones are NaN, `rows` a list of its parts, and `part` the label part in the bytes of the scope document.
+    ValueError is raised for what no label part can say; all else that is wrong is for a call to refuse.
+    """
+
+    def __init__(self, labels, rows, start=0, step=HOUR, points=None):
+        labels = list(labels)
+        try:
+            view = memoryview(rows)
+        except TypeError:
+            self.readings, self.points = _copied(rows, points)
+        else:
+            self.readings, self.points = _flat(view), points
+            if points is None:
+                self.points = view.shape[1] if view.ndim == 2 else len(self.readings) // (len(labels) or 1)
+        self._set(len(labels), start, step, _label_array(labels))
+
+    def _set(self, series, start, step, records):
+        try:
+            self.part = SIZES.pack(series, self.points, len(records), start, step) + records
+        except struct.error:
+            raise ValueError(f'{series} series of {self.points} points with {len(records)} label bytes, from {start} '
+                             f'every {step}: one of these is no number that the sizes of a vector can say') from None
+        self.start, self.step, self._series, self._labels = start, step, series, None
+
+    @classmethod
+    def _answered(cls, series, points, start, step, records, readings):
+        vector = cls.__new__(cls)
+        vector.readings, vector.points = readings, points
+        vector._set(series, start, step, records)
+        return vector
+
+    @property
+    def labels(self):
+        if self._labels is None:
+            self._labels = _decoded(self.part[SIZES.size:])
+        return self._labels
+
+    @property
+    def rows(self):
+        return [self.readings[place * self.points:(place + 1) * self.points] for place in range(self._series)]
+
+    def __len__(self):
+        return self._series
+
+    def __iter__(self):
+        """The series, each as its labels and its row."""
+        return zip(self.labels, self.rows)
+
+    def __repr__(self):
+        return f'<Vector of {self._series} series, {self.points} points from {self.start} every {self.step} ms>'
+
+    def __str__(self):
+        return '\n'.join(' '.join([label_text(labels), *map(number_text, row)]) for labels, row in self)
+
+
+# refusals in words
+
+SIDES = ('left', 'right')
+
+
+def _series(vector, side, place):
+    return f'{side} series {place + 1}, {label_text(vector.labels[place])}' if place < len(vector) else f'the {side} vector'
+
+
+def _unmerged(points, allowed):
+    """Why two series of a key are a duplicate, of so many points and under such an allowance."""
+    if points <= 2:
+        return 'series of two points or fewer are never merged'
+    text = f'its readings overlap those merged so far at more points than the {allowed} allowed'
+    return text if allowed == MAX_ALLOWANCE else f'{text}; overlap(N) in the query allows N, up to {MAX_ALLOWANCE}'
+
+
+def _duplicate(vector, side, kept, other, allowed):
+    """Numbers 7 and 8."""
+    return (f'{_series(vector, side, other)}, cannot be merged into {_series(vector, side, kept)}: '
+            f'they have the same key, and {_unmerged(vector.points, allowed)}')
+
+
+def _out_of_bounds(vector, side, place):
+    """Number 3: what of a vector, or of one of its series, is over its limit."""
+    if len(vector) > MAX_SERIES:
+        return f'the {side} vector has {len(vector)} series; a vector has at most {MAX_SERIES}'
+    if vector.points > MAX_POINTS:
+        return f'the {side} vector has {vector.points} points; a vector has at most {MAX_POINTS}'
+    return f'{_series(vector, side, place)}, has more than {MAX_TAGS} tags'
+
+
+def _off_grid(vector, side):
+    """Number 11."""
+    if vector.start > MAX_START:
+        return f'the {side} vector starts at {vector.start}; a start is 0 to {MAX_START}, in milliseconds'
+    return f'the {side} vector has the step {vector.step}; a step is 1 to {MAX_STEP}, in milliseconds'
+
+
+def _meaning(number, first, second, query, sides):
+    """A refusal in words. Fields are a side and a place, or two places on the side that the number says."""
+    if number in (3, 4, 5, 11):
+        vector, side = sides[first], SIDES[first]
+        return {
+            3: _out_of_bounds(vector, side, second),
+            4: f'{_series(vector, side, second)}, has a tag with an empty key',
+            5: f'the {side} vector has {len(vector.readings)} readings; {len(vector)} series of {vector.points} points '
+               f'have {len(vector) * vector.points}',
+            11: _off_grid(vector, side),
+        }[number]
+    if number in (7, 8):
+        return _duplicate(sides[number - 7], SIDES[number - 7], first, second, query[-1])
+    if number == 1:
+        return f'{OPERATORS[query[0]] if query[0] < len(OPERATORS) else query[0]} is no operator that is carried'
+    if number == 13:
+        return f'the query allows {query[-1]} overlapping points; {MAX_ALLOWANCE} are the most'
+    left, right = sides
+    return {
+        2: 'the query is malformed',
+        6: f'the two sides have different numbers of points: the left {left.points}, the right {right.points}',
+        9: f'the answer has over {MAX_SERIES} series, {MAX_TAGS} tags in a series or {MAX_LABEL_BYTES:,} label bytes',
+        10: 'the answer is longer than what was lent for it',
+        12: f'the two sides have different times: the left from {left.start} every {left.step} ms, '
+            f'the right from {right.start} every {right.step} ms',
+    }[number]
+
+
+# calls
+
+class _Buffer(ctypes.Structure):
+    """Py_buffer of Python's C interface: where a buffer lies, a read-only one too, which ctypes' from_buffer does not take."""
+    _fields_ = [('buf', ctypes.c_void_p), ('obj', ctypes.py_object), ('len', ctypes.c_ssize_t),
+                ('itemsize', ctypes.c_ssize_t), ('readonly', ctypes.c_int), ('ndim', ctypes.c_int),
+                ('format', ctypes.c_char_p), ('shape', ctypes.c_void_p), ('strides', ctypes.c_void_p),
+                ('suboffsets', ctypes.c_void_p), ('internal', ctypes.c_void_p)]
+
+
+_get_buffer, _release_buffer = ctypes.pythonapi.PyObject_GetBuffer, ctypes.pythonapi.PyBuffer_Release
+_get_buffer.argtypes = [ctypes.py_object, ctypes.POINTER(_Buffer), ctypes.c_int]
+_release_buffer.argtypes, _release_buffer.restype = [ctypes.POINTER(_Buffer)], None
+# Where a part of no bytes lies: the library takes no null pointer and no address between two readings.
+_NOWHERE = ctypes.c_uint64()
+
+
+class _Lent(contextlib.ExitStack):
+    """The buffers lent to a call, until it is over."""
+
+    def part(self, owner, item, writable=False):
+        """Where a buffer lies, how many items it has of so many bytes, and how many these are."""
+        buffer = _Buffer()
+        _get_buffer(owner, buffer, int(writable))
+        self.callback(_release_buffer, buffer)
+        where = buffer.buf if buffer.len else ctypes.addressof(_NOWHERE)
+        if where % item:
+            raise ValueError(f'the readings lie at an address that is no multiple of {item}')
+        return where, buffer.len // item, item
+
+
+@functools.lru_cache(maxsize=None)
+def _library():
+    here = os.path.dirname(os.path.realpath(__file__))
+    name = 'libnosingcatnip.so'
+    built = os.path.normpath(os.path.join(here, '..', '..', 'target', 'sharedlib', name))
+    paths = [os.environ.get('NOSINGCATNIP_LIBRARY'), os.path.join(here, name), built]
+    path = next((path for path in paths if path and os.path.exists(path)), None)
+    if path is None:
+        raise OSError(f'{built} is not there; bindings/build makes it')
+    library = ctypes.CDLL(path)
+    library.nosingcatnip_exec_binop.argtypes = [ctypes.c_void_p, ctypes.c_size_t] * 7 + [ctypes.c_void_p]
+    library.nosingcatnip_exec_binop.restype = None
+    return library
+
+
+def _apart(outputs, inputs):
+    """No output part lies over another part. A part is where it lies, how many items it has, and how long one is."""
+    for i, (where, count, item) in enumerate(outputs):
+        for other, others, length in outputs[:i] + inputs:
+            if where < other + others * length and other < where + count * item:
+                raise ValueError('a part that is lent for the answer lies over another part of the call')
+
+
+def exec_binop(query, left, right, out_labels=None, out=None):
+    """The answer of a query over two vectors, a Vector; or Refusal.
+
+    The query is text, as encode_query takes it, or the bytes of the scope document. An answer lies in memory of its own,
+    or in two buffers that are lent for it, of bytes and of 64-bit floats: then it changes its own length at the start of
+    each, and a refusal changes neither. Calls may run at the same time in several threads, on buffers that nobody changes
+    meanwhile.
+
+    >>> exec_binop('/', Vector([{}], [[6]]), Vector([{}], [[3, 4]]))
+    Traceback (most recent call last):
+        ...
+    nosingcatnip.Refusal: the two sides have different numbers of points: the left 1, the right 2
+    """
+    query = encode_query(query) if isinstance(query, str) else bytes(query)
+    if out_labels is None:
+        out_labels = bytearray(MAX_LABEL_BYTES)
+    if out is None:
+        series, points = min(len(left) + len(right), MAX_SERIES), min(max(left.points, right.points), MAX_POINTS)
+        out = memoryview(bytearray(8 * series * points)).cast('d')
+    out_labels, out = memoryview(out_labels).cast('B'), _flat(memoryview(out))
+    result = (ctypes.c_uint64 * 8)()
+    with _Lent() as lent:
+        inputs = [lent.part(query, 1), lent.part(left.part, 1), lent.part(left.readings, 8),
+                  lent.part(right.part, 1), lent.part(right.readings, 8)]
+        outputs = [lent.part(out_labels, 1, writable=True), lent.part(out, 8, writable=True)]
+        _apart(outputs, inputs)
+        _library().nosingcatnip_exec_binop(*(number for part in inputs + outputs for number in part[:2]), result)
+    number, first, second, series, points, start, step, label_bytes = result
+    if number:
+        raise Refusal(number, (first, second), _meaning(number, first, second, query, (left, right)))
+    return Vector._answered(series, points, start, step, bytes(out_labels[:label_bytes]), out[:series * points])
