@@ -1,19 +1,28 @@
 // Series with only missing readings taken out: their key number becomes one that no key has.
 ghost use mathlib.Core.Path.{_≡_};
 ghost use Prim.Native.Nat.{_+_, _*_, _≤_};
-ghost use lib.ListN.{length, take, drop};
+ghost use lib.ListN.{length, getD, take, drop};
 ghost use Rattle.model.specs.Row.{onlyMissing};
+ghost use Rattle.reading.specs.Gaps.{gapOf};
 ghost use Rattle.keyed_sides.specs.Dropped.{keptNumber, droppedMissing};
+
+// How many of two readings from a place on are missing.
+fn two_gaps(row: &[u64], i: usize) -> u64
+    requires { ⌜ i + 2 ≤ length (now row) ⌝ }
+    ensures { λ r. ⌜ r ≡ gapOf (getD (now (row .entry)) i 0) + gapOf (getD (now (row .entry)) (i + 1) 0) ⌝ }
+{
+    reading::gaps(row[i], row[i + 1])
+}
 
 // Whether eight readings from a place on are all missing: their gaps are summed, with no branch between them.
 fn eight_missing(row: &[u64], i: usize) -> bool
     requires { ⌜ i + 8 ≤ length (now row) ⌝ }
     ensures { λ r. ⌜ r ≡ onlyMissing (take 8 (drop i (now (row .entry)))) ⌝ }
 {
-    let a = reading::gaps(row[i], row[i + 1]);
-    let b = reading::gaps(row[i + 2], row[i + 3]);
-    let c = reading::gaps(row[i + 4], row[i + 5]);
-    let d = reading::gaps(row[i + 6], row[i + 7]);
+    let a = two_gaps(row, i);
+    let b = two_gaps(row, i + 2);
+    let c = two_gaps(row, i + 4);
+    let d = two_gaps(row, i + 6);
     (a + b) + (c + d) == 8
 }
 

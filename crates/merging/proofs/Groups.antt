@@ -12,7 +12,7 @@ use lib.Seq.{drop-cons, length-take-le, take-all}
 use borrow.Author.Tests.{eq-eqb, ne-eqb}
 use Rattle.model.specs.Lists.{cases}
 use Rattle.model.specs.Row.{overwritten, merged}
-use Rattle.merge.specs.Merging.{mergedIf}
+use Rattle.mergeable.specs.Mergeable.{mergedIf}
 use Rattle.plan.specs.Merging.{RowMerge, row, failedAt, onRow, mergeGroup, mergeLead}
 use Rattle.side_parts.specs.Sides.{rowAt}
 use Rattle.side_parts.specs.SideLaws.{row-in, row-width}

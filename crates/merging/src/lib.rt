@@ -15,7 +15,7 @@ fn absorb(rows: &[u64], x: usize, g: usize, i: usize, allowance: usize, dst: &mu
         return true;
     }
     let src = side_parts::row(rows, dst.len(), i);
-    if merge::merges(dst, src, allowance) {
+    if mergeable::merges(dst, src, allowance) {
         merge::overwrite(dst, src);
         return true;
     }

@@ -11,7 +11,7 @@ use lib.Seq.{take-all, length-take-le, getD-take, getD-drop}
 use borrow.Author.Tests.{eq-eqb}
 use Rattle.model.specs.Lists.{cases}
 use Rattle.model.specs.Row.{overlaps, overwritten, merged}
-use Rattle.merge.specs.Merging.{mergedIf}
+use Rattle.mergeable.specs.Mergeable.{mergedIf}
 use Rattle.plan.specs.Keys.{firstOf, lastOf, KeyEnds}
 use Rattle.plan.specs.Merging.{RowMerge, row, failedAt, onRow, mergeGroup, mergeLast}
 use Rattle.side_parts.specs.Sides.{rowAt}

@@ -6,7 +6,7 @@ ghost use mathlib.Core.Bool.{false};
 ghost use Prim.Native.Nat.{_+_, _-_, _*_, _≤_, _<_};
 ghost use lib.ListN.{length, getD, take, drop};
 ghost use Rattle.model.specs.Row.{merged};
-ghost use Rattle.merge.specs.Merging.{mergedIf};
+ghost use Rattle.mergeable.specs.Mergeable.{mergedIf};
 ghost use Rattle.plan.specs.Keys.{firstOf, KeyEnds};
 ghost use Rattle.plan.specs.Merging.{mergeGroup, mergeLast};
 ghost use Rattle.plan.specs.Pairs.{pairClash, pairsClash};
@@ -28,7 +28,7 @@ fn row_merges(rows: &[u64], p: usize, into: usize, from: usize, allowance: usize
         (rowAt p (now (rows .entry)) into) (rowAt p (now (rows .entry)) from)
         ⌝ }
 {
-    merge::merges(
+    mergeable::merges(
         side_parts::row(rows, p, into),
         side_parts::row(rows, p, from),
         allowance,
@@ -61,7 +61,7 @@ fn ensure_between(
     match merging::merge_between(rows, keys, k, from, prev, allowance, row) {
         Merges::FailedAt(i) => Merges::FailedAt(i),
         Merges::Done => {
-            if merge::merges(row, side_parts::row(rows, row.len(), prev), allowance) {
+            if mergeable::merges(row, side_parts::row(rows, row.len(), prev), allowance) {
                 Merges::Done
             } else {
                 Merges::FailedAt(prev)
@@ -89,7 +89,7 @@ fn three_merge(
     ensures { λ r. ⌜ r ≡ threeMerge allowance p (now (rows .entry)) (now (keys .entry)) k first prev last ⌝ }
 {
     if key_places::are_two(keys, k, first, prev) {
-        return merge::three_merge(
+        return mergeable::three_merge(
             side_parts::row(rows, p, last),
             side_parts::row(rows, p, first),
             side_parts::row(rows, p, prev),
@@ -99,8 +99,8 @@ fn three_merge(
     false
 }
 
-// Whether three or more series of a key become a single one, tried in turn: the first is tried on the last and put over
-// it, at the start of a work row, in one pass, and those between them, of which prev is the last, are merged into that.
+// Whether three or more series of a key become a single one, tried in turn: the first is tried on the last, then put
+// over it, at the start of a work row, and those between them, of which prev is the last, are merged into that.
 fn ensure_in_turn(
     rows: &[u64],
     keys: &[usize],
@@ -120,12 +120,12 @@ fn ensure_in_turn(
     ensures { λ r. ⌜ failedIn r ≡ failureOf (mergeLast allowance p (now (rows .entry)) (now (keys .entry)) k) ⌝ }
     ensures { λ r. ⌜ length (now (work .exit)) ≡ length (now (work .entry)) ⌝ }
 {
-    if merge::put_merged(
-        &mut work[..p],
-        side_parts::row(rows, p, last),
-        side_parts::row(rows, p, first),
-        allowance,
-    ) {
+    if row_merges(rows, p, last, first, allowance) {
+        merge::put_overwritten(
+            &mut work[..p],
+            side_parts::row(rows, p, last),
+            side_parts::row(rows, p, first),
+        );
         return ensure_between(rows, keys, k, first + 1, prev, allowance, &mut work[..p]);
     }
     Merges::FailedAt(first)
@@ -274,7 +274,7 @@ fn two_merge(allowance: usize, p: usize, keys: [&[usize]; 2], rows: [&[u64]; 2],
     ensures { λ s r. ⌜ r ≡ twosMerge allowance s c ⌝ }
 {
     if key_places::both_two(keys, c) {
-        return merge::both_merge(
+        return mergeable::both_merge(
             side_parts::row(rows[0], p, end_codes::left_last(c)),
             side_parts::row(rows[0], p, end_codes::left_first(c)),
             side_parts::row(rows[1], p, end_codes::right_last(c)),

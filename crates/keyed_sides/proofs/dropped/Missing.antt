@@ -76,21 +76,22 @@ module _ (row : List ℕ) (i : ℕ) (h : i + 8 ≤ length row) where
 
   abbrev eight : List ℕ
   eight =
-      at i ∷ at (i + 1) ∷ at (i + 2) ∷ at (i + 3) ∷ at (i + 4) ∷ at (i + 5) ∷ at (i + 6) ∷ at (i + 7) ∷ []
+      at i ∷ at (i + 1) ∷ at (i + 2) ∷ at (i + 2 + 1) ∷ at (i + 4) ∷ at (i + 4 + 1) ∷ at (i + 6) ∷ at (i + 6 + 1) ∷ []
 
   eight-there : take 8 (drop i row) ≡ eight
   eight-there =
       next 7 i (i + 1) (omega arith) refl ∙ ap (λ (l : List ℕ). at i ∷ l)
       (next 6 (i + 1) (i + 2) (omega arith) (omega arith) ∙ ap (λ (l : List ℕ). at (i + 1) ∷ l)
-      (next 5 (i + 2) (i + 3) (omega arith) (omega arith) ∙ ap (λ (l : List ℕ). at (i + 2) ∷ l)
-      (next 4 (i + 3) (i + 4) (omega arith) (omega arith) ∙ ap (λ (l : List ℕ). at (i + 3) ∷ l)
-      (next 3 (i + 4) (i + 5) (omega arith) (omega arith) ∙ ap (λ (l : List ℕ). at (i + 4) ∷ l)
-      (next 2 (i + 5) (i + 6) (omega arith) (omega arith) ∙ ap (λ (l : List ℕ). at (i + 5) ∷ l)
-      (next 1 (i + 6) (i + 7) (omega arith) (omega arith) ∙ ap (λ (l : List ℕ). at (i + 6) ∷ l)
-      (next 0 (i + 7) (i + 8) (omega arith) (omega arith))))))))
+      (next 5 (i + 2) (i + 2 + 1) (omega arith) refl ∙ ap (λ (l : List ℕ). at (i + 2) ∷ l)
+      (next 4 (i + 2 + 1) (i + 4) (omega arith) (omega arith) ∙ ap (λ (l : List ℕ). at (i + 2 + 1) ∷ l)
+      (next 3 (i + 4) (i + 4 + 1) (omega arith) refl ∙ ap (λ (l : List ℕ). at (i + 4) ∷ l)
+      (next 2 (i + 4 + 1) (i + 6) (omega arith) (omega arith) ∙ ap (λ (l : List ℕ). at (i + 4 + 1) ∷ l)
+      (next 1 (i + 6) (i + 6 + 1) (omega arith) refl ∙ ap (λ (l : List ℕ). at (i + 6) ∷ l)
+      (next 0 (i + 6 + 1) (i + 8) (omega arith) (omega arith))))))))
 
-  pub eight-told : (a b c d : ℕ) → a ≡ gapOf (at i) + gapOf (at (i + 1)) → b ≡ gapOf (at (i + 2)) + gapOf (at (i + 3))
-      → c ≡ gapOf (at (i + 4)) + gapOf (at (i + 5)) → d ≡ gapOf (at (i + 6)) + gapOf (at (i + 7))
+  pub eight-told : (a b c d : ℕ) → a ≡ gapOf (at i) + gapOf (at (i + 1))
+      → b ≡ gapOf (at (i + 2)) + gapOf (at (i + 2 + 1))
+      → c ≡ gapOf (at (i + 4)) + gapOf (at (i + 4 + 1)) → d ≡ gapOf (at (i + 6)) + gapOf (at (i + 6 + 1))
       → eqb (a + b + (c + d)) 8 ≡ onlyMissing (take 8 (drop i row))
   unfolding gapSum
   eight-told a b c d ha hb hc hd =

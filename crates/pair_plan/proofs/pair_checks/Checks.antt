@@ -23,7 +23,7 @@ use Rattle.plan.specs.Conclude.{orElse}
 use Rattle.plan.specs.Pairs.{isPair, pairClash, pairsClash}
 use Rattle.merging.specs.declared.Merges.{Merges}
 use Rattle.merging.specs.declared.Merges.the-variants.{Done, FailedAt}
-use Rattle.merge.specs.Merging.{mergedIf, mergeable, mergeable-merges}
+use Rattle.mergeable.specs.Mergeable.{mergedIf, mergeable, mergeable-merges}
 use Rattle.answers.specs.Plans.{duplicate}
 use Rattle.side_parts.specs.SideLaws.{row-in, row-width}
 use Rattle.merging.specs.Groups.{MergedGroup}
@@ -158,10 +158,6 @@ module _ (allowance p : ℕ) (rows keys : List ℕ) (k first last : ℕ) (held :
           (two-between keys k first last (sym hr ∙ u) last-inside),
     )
 
-  pub put-fails : (x y : List ℕ) → x ≡ rowAt p rows last → y ≡ rowAt p rows first → (m : Bool)
-      → mergedIf m x y ≡ merged allowance x y → m ≡ false → some first ≡ failureOf (mergeLast allowance p rows keys k)
-  put-fails x y hx hy m hm f = first-fails m (rw (hx, hy) at hm) f
-
   -- the first series put over the last, at the start of a work row
 
   module _ (work : List ℕ) (room : p ≤ length work) where
@@ -185,7 +181,7 @@ module _ (allowance p : ℕ) (rows keys : List ℕ) (k first last : ℕ) (held :
       pub put-room : length keys * length (take p (d ++ drop p work)) ≤ length rows
       put-room = rw (← put-part) (omega (arith, held .whole))
 
-      pub put-again : length (d ++ drop p work) ≡ length work
+      put-again : length (d ++ drop p work) ≡ length work
       put-again = omega (arith, length-append d (drop p work), length-drop p work, put-long)
 
       module _ (prev : ℕ) (later : List ℕ) (r : Merges)
@@ -205,11 +201,13 @@ module _ (allowance p : ℕ) (rows keys : List ℕ) (k first last : ℕ) (held :
           put-part,
         )
 
-        pub between-told : (m : Bool) → mergedIf m x y ≡ merged allowance x y → m ≡ true
-            → LastBetween keys k first last prev → failedIn r ≡ failureOf (mergeLast allowance p rows keys k)
+        pub between-told : (m : Bool)
+            → mergedIf m (rowAt p rows last) (rowAt p rows first)
+            ≡ merged allowance (rowAt p rows last) (rowAt p rows first)
+            → m ≡ true → LastBetween keys k first last prev → failedIn r ≡ failureOf (mergeLast allowance p rows keys k)
         between-told m hm t b =
             (rw (again, put-long, add-one first, hd, hx, hy) at (g .answer))
-            ∙ ap failureOf (sym (up-to-prev prev b (rw (t, hx, hy) at hm)))
+            ∙ ap failureOf (sym (up-to-prev prev b (rw t at hm)))
 
 -- `ensure_single_timeseries`
 

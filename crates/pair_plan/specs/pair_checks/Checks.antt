@@ -14,7 +14,7 @@ use Rattle.side_parts.specs.Sides.{rowAt}
 use Rattle.side_parts.specs.Lent.{Sides}
 use Rattle.end_codes.specs.Codes.{leftFirst, leftLast, rightFirst, rightLast}
 use Rattle.key_places.specs.Two.{areTwo, bothTwo}
-use Rattle.merge.specs.Merging.{mergeable}
+use Rattle.mergeable.specs.Mergeable.{mergeable}
 use Rattle.merging.specs.declared.Merges.{Merges}
 use Rattle.merging.specs.declared.Merges.the-variants.{Done, FailedAt}
 use Rattle.answers.specs.Plans.{duplicate}

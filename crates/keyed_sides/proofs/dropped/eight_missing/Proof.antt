@@ -7,55 +7,35 @@ use Rattle.keyed_sides.proofs.dropped.eight_missing.Tie as tie
 
 first-sum : tie.Need-add-result
 first-sum c =
-    let second = c .before .before .before .before .before .before in
-    omega (
-      arith,
-      pair-most _ _ _ (second .before .before .before .gaps .ensures),
-      pair-most _ _ _ (second .gaps2 .ensures),
-    )
+    let second = c .before .before in
+    omega (arith, pair-most _ _ _ (second .before .two-gaps .ensures), pair-most _ _ _ (second .two-gaps2 .ensures))
 
 second-sum : tie.Need-add-result-2
-second-sum c =
-    omega (arith, pair-most _ _ _ (c .before .before .before .gaps3 .ensures), pair-most _ _ _ (c .gaps4 .ensures))
+second-sum c = omega (arith, pair-most _ _ _ (c .before .two-gaps3 .ensures), pair-most _ _ _ (c .two-gaps4 .ensures))
+
+whole-sum : tie.Need-add-result-3
+whole-sum c =
+    let second = c .before .before in
+    omega (
+      arith,
+      pair-most _ _ _ (second .before .two-gaps .ensures),
+      pair-most _ _ _ (second .two-gaps2 .ensures),
+      pair-most _ _ _ (c .before .two-gaps3 .ensures),
+      pair-most _ _ _ (c .two-gaps4 .ensures),
+    )
 
 pub eight-missing-spec : {M : Type 1} → statement M
 eight-missing-spec =
     tie.close
     (tie.spec
+    (λ c κs. search needs)
     (λ c. search needs)
+    (λ c κs. search needs)
     (λ c. search needs)
+    (λ c κs. search needs)
     (λ c. search needs)
-    (λ c. search needs)
-    (λ c. search needs)
-    (λ c κs. tt)
-    (λ c. search needs)
-    (λ c. search needs)
-    (λ c. search needs)
-    (λ c. search needs)
-    (λ c. search needs)
-    (λ c. search needs)
-    (λ c κs. tt)
-    (λ c. search needs)
-    (λ c. search needs)
-    (λ c. search needs)
-    (λ c. search needs)
-    (λ c. search needs)
-    (λ c. search needs)
-    (λ c κs. tt)
-    (λ c. search needs)
-    (λ c. search needs)
-    (λ c. search needs)
-    (λ c. search needs)
-    (λ c. search needs)
-    (λ c. search needs)
-    (λ c κs. tt)
+    (λ c κs. search needs)
     first-sum
     second-sum
-    (λ c. omega (
-      arith,
-      pair-most _ _ _ (c .before .before .before .before .before .before .before .before .before .gaps .ensures),
-      pair-most _ _ _ (c .before .before .before .before .before .before .gaps2 .ensures),
-      pair-most _ _ _ (c .before .before .before .gaps3 .ensures),
-      pair-most _ _ _ (c .gaps4 .ensures),
-    ))
+    whole-sum
     (λ c. search eight-told))

@@ -3,10 +3,10 @@ use Prim.Native.Nat.{_+_, _-_, _≤_}
 use native.Mathlib.Omega.{arith}
 use lib.ListN.{length}
 use borrow.Author.Needs.{needs}
-use Rattle.merge.proofs.Merging.{CountedThree, three-start, three-turn, first-fits, then-fits}
-use Rattle.merge.proofs.Merging.{first-below, then-below, first-fails, then-fails, three-told}
-use Rattle.merge.proofs.three_merge.Statement.{statement}
-use Rattle.merge.proofs.three_merge.Tie as tie
+use Rattle.mergeable.proofs.Counting.{CountedThree, three-start, three-turn, first-fits, then-fits}
+use Rattle.mergeable.proofs.Counting.{first-below, then-below, first-fails, then-fails, three-told}
+use Rattle.mergeable.proofs.three_merge.Statement.{statement}
+use Rattle.mergeable.proofs.three_merge.Tie as tie
 
 abbrev Inv-loop : tie.InvT-loop
 Inv-loop d s t allowance n₀ k₀ i₀ n k i = CountedThree d s t n k i

@@ -1,7 +1,7 @@
 -- `either_gap` meets its contract: of two numbers that are 0 or 1, the bits of either are their larger. Assumes nothing.
-use Rattle.merge.proofs.Merging.{gap-told}
-use Rattle.merge.proofs.either_gap.Statement.{statement}
-use Rattle.merge.proofs.either_gap.Tie as tie
+use Rattle.mergeable.proofs.Counting.{gap-told}
+use Rattle.mergeable.proofs.either_gap.Statement.{statement}
+use Rattle.mergeable.proofs.either_gap.Tie as tie
 
 returns : tie.Need-returns
 returns c =

@@ -1,7 +1,7 @@
 -- `gap_after` meets its contract, from those of its calls. Assumes nothing.
-use Rattle.merge.proofs.Merging.{after-gap}
-use Rattle.merge.proofs.gap_after.Statement.{statement}
-use Rattle.merge.proofs.gap_after.Tie as tie
+use Rattle.mergeable.proofs.Counting.{after-gap}
+use Rattle.mergeable.proofs.gap_after.Statement.{statement}
+use Rattle.mergeable.proofs.gap_after.Tie as tie
 
 returns : tie.Need-returns
 returns c =

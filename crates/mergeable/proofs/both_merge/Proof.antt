@@ -3,10 +3,10 @@ use Prim.Native.Nat.{_+_, _-_, _≤_}
 use native.Mathlib.Omega.{arith}
 use lib.ListN.{length}
 use borrow.Author.Needs.{needs}
-use Rattle.merge.proofs.Merging.{CountedBoth, both-start, both-turn, one-fits, other-fits}
-use Rattle.merge.proofs.Merging.{one-below, other-below, one-fails, other-fails, both-told}
-use Rattle.merge.proofs.both_merge.Statement.{statement}
-use Rattle.merge.proofs.both_merge.Tie as tie
+use Rattle.mergeable.proofs.Counting.{CountedBoth, both-start, both-turn, one-fits, other-fits}
+use Rattle.mergeable.proofs.Counting.{one-below, other-below, one-fails, other-fails, both-told}
+use Rattle.mergeable.proofs.both_merge.Statement.{statement}
+use Rattle.mergeable.proofs.both_merge.Tie as tie
 
 abbrev Inv-loop : tie.InvT-loop
 Inv-loop d s e t allowance n₀ m₀ i₀ n m i = CountedBoth d s e t n m i

@@ -4,9 +4,9 @@ use Prim.Native.Nat.{_+_, _-_, _≤_}
 use native.Mathlib.Omega.{arith}
 use lib.ListN.{length}
 use borrow.Author.Needs.{needs}
-use Rattle.merge.proofs.Merging.{Counted, count-starts, count-turn, count-fits, count-below, count-ends}
-use Rattle.merge.proofs.overlaps.Statement.{statement}
-use Rattle.merge.proofs.overlaps.Tie as tie
+use Rattle.mergeable.proofs.Counting.{Counted, count-starts, count-turn, count-fits, count-below, count-ends}
+use Rattle.mergeable.proofs.overlaps.Statement.{statement}
+use Rattle.mergeable.proofs.overlaps.Tie as tie
 
 abbrev Inv-loop : tie.InvT-loop
 Inv-loop dst src n₀ i₀ n i = Counted dst src n i
