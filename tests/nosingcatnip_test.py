@@ -1,7 +1,9 @@
 """Tests of the Python module, over the shared library: what it encodes is held against the encoder of the test data, what it answers
 against the scope document's examples and plain arithmetic."""
 import doctest
+import functools
 import math
+import operator
 import os
 import random
 import shutil
@@ -15,7 +17,7 @@ from array import array
 import built
 import nosingcatnip
 import wire
-from nosingcatnip import Refusal, Vector, encode_query, exec_binop
+from nosingcatnip import Refusal, Vector, encode_aggregation, encode_query, exec_aggregate, exec_binop
 
 HOUR = nosingcatnip.HOUR
 
@@ -82,6 +84,18 @@ class Bytes(unittest.TestCase):
                            ('+ on("")', 'a label is empty'), ('+ on("a)', 'cannot read'), ('+ on(a)(b)', r"did not expect '\('")]:
             with self.subTest(text[:9]), self.assertRaisesRegex(ValueError, what):
                 encode_query(text)
+
+
+    def test_aggregations_in_the_encoder_s_words(self):
+        for number, name in enumerate(wire.AGGREGATES):
+            self.assertEqual(encode_aggregation(name), wire.aggregation(number))
+            self.assertEqual(encode_aggregation(f'{name.upper()} by (a, "press no.")'), wire.aggregation(number, wire.BY, [b'a', b'press no.']))
+            self.assertEqual(encode_aggregation(f'{name} without(__name__)'), wire.aggregation(number, wire.WITHOUT, [b'__name__']))
+        for text, what in [('', "'' is no aggregate"), ('median', "'median' is no aggregate"), ('sum over (a)', "did not expect 'over'"),
+                           ('sum by', r'\( is missing after by'), ('sum by (a', r'\) is missing after by'), ('sum by (a) b', "did not expect 'b'"),
+                           ('sum (a)', r"did not expect '\('"), ('sum by ("")', 'a label is empty'), (f'sum by ({"x" * 256})', 'longer than 255')]:
+            with self.subTest(text[:9]), self.assertRaisesRegex(ValueError, f'^query: .*{what}'):
+                encode_aggregation(text)
 
 
 class Buffers(unittest.TestCase):
@@ -200,6 +214,33 @@ class Calls(unittest.TestCase):
         answer = exec_binop('* on(press) group_left()', forms, Vector([{'press': 'A'}], [[0.5, 1]]))
         self.assertEqual([(labels['form'], row[0]) for labels, row in answer], [(str(i), i / 2) for i in range(1, 7)])
 
+    def test_aggregates(self):
+        vector = Vector([{'__name__': 'a', 'p': 'A', 'f': '1'}, {'p': 'B'}, {'__name__': 'b', 'p': 'A', 'f': '2'}],
+                        [[1, None, -0.0, math.inf], [2, 3, None, 1], [4, None, None, -math.inf]], 60000, 1000)
+        for request, series in {
+            'sum by (p)': [({'p': 'A'}, [5, None, -0.0, None]), ({'p': 'B'}, [2, 3, None, 1])],
+            'min by (p)': [({'p': 'A'}, [1, None, -0.0, -math.inf]), ({'p': 'B'}, [2, 3, None, 1])],
+            'max without (f)': [({'p': 'A'}, [4, None, -0.0, math.inf]), ({'p': 'B'}, [2, 3, None, 1])],
+            'count': [({}, [3, 1, 1, 3])],
+            'avg by (__name__)': [({'__name__': 'a'}, [1, None, -0.0, math.inf]), ({}, [2, 3, None, 1]), ({'__name__': 'b'}, [4, None, None, -math.inf])],
+            'sum by (*)': [({}, [7, 3, -0.0, None])],
+        }.items():
+            with self.subTest(request):
+                answer = exec_aggregate(request, vector)
+                self.assertEqual([(labels, bits(row)) for labels, row in answer], [(labels, bits(row)) for labels, row in series])
+                self.assertEqual((answer.start, answer.step), (60000, 1000))
+        self.assertEqual(len(exec_aggregate('sum', Vector([], [], points=4))), 0)
+
+    def test_the_largest_aggregate(self):
+        """512 series of 1,024 points in 8 groups, against a plain reading."""
+        random.seed(8)
+        rows = [[None if random.random() < .25 else random.uniform(-1e6, 1e6) for _ in range(1024)] for _ in range(512)]
+        vector = Vector([{'group': str(i % 8), 'n': str(i)} for i in range(512)], rows)
+        columns = [[[x for x in column if x is not None] for column in zip(*rows[group::8])] for group in range(8)]
+        for request, plain in ('sum', functools.partial(functools.reduce, operator.add)), ('min', min), ('max', max), ('count', len):
+            answer = exec_aggregate(f'{request} by (group)', vector)
+            self.assertEqual([bits(row) for row in answer.rows], [bits(map(plain, group)) for group in columns])
+
     def test_the_largest_vectors(self):
         """512 series of 1,024 points on both sides, 65,535 label bytes on each."""
         random.seed(7)
@@ -299,6 +340,22 @@ class Refusals(unittest.TestCase):
         short = bare([[1, None], [None, 1]])
         never = 'series of two points or fewer are never merged'
         self.told(7, (1, 0), key.format('left') + never, '+ on()', short, Vector([{}], [[1, 1]]))
+
+    def test_aggregates(self):
+        def told(number, fields, words, request, vector, **lent):
+            with self.assertRaises(Refusal) as told:
+                exec_aggregate(request, vector, **lent)
+            self.assertEqual((told.exception.number, told.exception.fields, str(told.exception)), (number, fields, words))
+        one = bare([[1]])
+        for byte in 5, 255:
+            told(14, (0, 0), f'{byte} is the number of no aggregate', bytes([byte]), one)
+        for request in b'', b'\0', b'\0\2\0', b'\0\0\0\0', b'\0\0\1':
+            told(2, (0, 0), 'the query is malformed', request, one)
+        told(3, (0, 0), 'the vector has 513 series; a vector has at most 512', 'sum', bare([[1]] * 513))
+        told(4, (0, 1), 'series 2, {""="x"}, has a tag with an empty key', 'sum', Vector([{}, {'': 'x'}], [[1], [2]]))
+        told(5, (0, 0), 'the vector has 3 readings; 1 series of 2 points have 2', 'sum', Vector([{}], array('d', [1, 2, 3]), points=2))
+        told(11, (0, 0), 'the vector has the step 0; a step is 1 to 86400000, in milliseconds', 'sum', Vector([], [], step=0))
+        told(10, (0, 0), 'the answer is longer than what was lent for it', 'sum', one, out=array('d'))
 
     def test_answers(self):
         over = 'the answer has over 512 series, 32 tags in a series or 65,535 label bytes'

@@ -238,6 +238,9 @@ class Sheets(unittest.TestCase):
             text = quote.csv_text(nosingcatnip.Vector(labels, rows, start, step), False, [start, start + step])
             self.assertEqual(self.read(text), ((start, step), series))
         self.assertEqual(text.splitlines()[0], '__name__,a b,c,2026-03-02 00:00,2026-03-03 00:00')
+
+    @built.needs_library
+    def test_a_total_is_a_series(self):
         answer = nosingcatnip.Vector([{'c': '1'}, {'c': '2'}], [[1, None], [2, None]])
         self.assertEqual(quote.csv_text(answer, True, [0, 3600000]),
                          '__name__,c,1970-01-01 00:00,1970-01-01 01:00\n,1,1,\n,2,2,\ntotal,,3,\n')
@@ -255,6 +258,7 @@ class Sheets(unittest.TestCase):
 
 
 class Answers(unittest.TestCase):
+    @built.needs_library
     def test_table(self):
         answer = nosingcatnip.Vector([{'__name__': 'fed', 'press': 'A b'}, {}], [[5, None], [0.1, 10]])
         self.assertEqual(quote.table(answer, True), 'fed{press="A b"}    5   -\n{}                0.1  10\ntotal             5.1  10\n')
@@ -392,6 +396,25 @@ class Runs(unittest.TestCase):
         status, text, _ = self.quoted('+', left, right.replace('2026-03-02', '2026-03-03'), form='csv')
         self.assertEqual(status, 1)
         self.assertIn('left.csv has from 2026-03-02T06:00Z every 1h', text)
+
+    def test_aggregates(self):
+        def quoted(query, text, *more):
+            out, errors = io.StringIO(), io.StringIO()
+            with tempfile.TemporaryDirectory() as folder, redirect_stdout(out), redirect_stderr(errors):
+                path = os.path.join(folder, 'paper.txt')
+                with open(path, 'w', encoding='utf-8') as file:
+                    file.write(text)
+                status = quote.main([query, path, *more])
+            return status, out.getvalue(), errors.getvalue()
+        text = 'a{s="1",f="1"} 1 -\na{s="2",f="2"} 2 -\na{s="1",f="3"} 4 8\n'
+        self.assertEqual(quoted('sum by (s)', text, '--total'), (0, '{s="1"}  5  8\n{s="2"}  2  -\ntotal    7  8\n', ''))
+        self.assertEqual(quoted('Avg without (f)', text), (0, '{s="1"}  2.5  8\n{s="2"}    2  -\n', ''))
+        self.assertEqual(quoted('count', text), (0, '{}  3  1\n', ''))
+        many = ''.join(f'a{{f="{i}"}} 1\n' for i in range(513))
+        self.assertEqual(quoted('sum', many), (1, 'refused: the vector has 513 series; a vector has at most 512\n', ''))
+        self.assertEqual(quoted('/', text), (2, '', 'quote: a query needs two files, left and right\n'))
+        self.assertEqual(quoted('sum by s', text), (2, '', 'quote: query: ( is missing after by\n'))
+        self.assertEqual(self.quoted('sum', text, text), (2, '', 'quote: an aggregate is of one file\n'))
 
     def test_refusals_in_words(self):
         """Each refusal that a file and a query as people write them can get."""

@@ -11,6 +11,9 @@ MISSING = 0x7ff8000000000000
 
 OPERATORS = ('+', 'and', 'atan2', 'default', '/', '==', '%', '*', '^', '-', '>', '>=', 'if', 'ifnot', '<', '<=', '!=', 'or', 'unless')
 ADD, AND, ATAN2, DEFAULT, DIV, EQL, MOD, MUL, POW, SUB, GT, GTE, IF, IF_NOT, LT, LTE, NOT_EQ, OR, UNLESS = range(19)
+AGGREGATES = ('sum', 'min', 'max', 'count', 'avg')
+SUM, MIN, MAX, COUNT, AVG = range(5)
+BY, WITHOUT = range(2)
 ALL, ON, IGNORING = range(3)
 ONE_TO_ONE, GROUP_LEFT, GROUP_RIGHT, MANY_TO_MANY = range(4)
 KEEP_NAMES, BOOL = 1, 2
@@ -32,6 +35,11 @@ def label_list(labels):
 def query(operator, matching=ALL, join=ONE_TO_ONE, flags=0, matching_list=(), join_list=(), allowance=ALLOWANCE):
     lists = label_list(matching_list) + label_list(join_list)
     return bytes([operator, matching, join, flags]) + lists + bytes([allowance])
+
+
+def aggregation(aggregate, grouping=BY, labels=()):
+    """A request for an aggregate."""
+    return bytes([aggregate, grouping]) + label_list(labels)
 
 
 def tag_fields(tags):

@@ -1,22 +1,34 @@
-//! Times `exec_binop` of the Rust and of the library on the same inputs, in turn, beside a plain copy of as many bytes.
-//! README.md says how to build it and what is counted.
+//! Times `exec_binop` of the Rust and of the library on the same inputs, and the library's aggregates and a plain loop, in
+//! turn, beside a plain copy of as many bytes. README.md says how to build it and what is counted.
+mod plain;
 mod times;
 mod workloads;
 
 use oracle::compare::{compare, Known, Verdict};
 use times::{measure, Measured, Times};
-use workloads::{workloads, Workload};
+use workloads::{workloads, Work, Workload};
 
 /// What is measured must be right: the Rust against the reference, and the library against it too.
 fn checked(w: &Workload) -> &'static str {
     #[cfg(feature = "library")]
     {
         use oracle::library::{Library, Linked};
-        if let Err(difference) = Linked::default().check(&w.call) {
+        let checked = match &w.work {
+            Work::Query(call) => Linked::default().check(call),
+            Work::Aggregate(call) => Linked::default().check_aggregate(call),
+        };
+        if let Err(difference) = checked {
             panic!("{}: {difference}", w.name);
         }
     }
-    match compare(&w.call) {
+    let verdict = match &w.work {
+        Work::Query(call) => compare(call),
+        Work::Aggregate(call) => {
+            assert!(plain::is_right(call), "{}: the plain loop is wrong", w.name);
+            return "  (the Rust is a plain loop)";
+        }
+    };
+    match verdict {
         Verdict::Agree(_) | Verdict::Known(Known::NanBits) => "",
         Verdict::Known(Known::JoinUsesUp) => "  (the Rust uses up its one side and answers fewer series)",
         other => panic!("{}: {other:?}", w.name),
@@ -40,7 +52,7 @@ fn main() {
     println!("{heads}  {heads}  workload");
     for w in workloads().into_iter().filter(|w| w.name.contains(&part)) {
         let note = checked(&w);
-        let measured = measure(&w.call, turns);
+        let measured = measure(&w.work, turns);
         let (medians, fastest) = (columns(&measured, |t| t.median), columns(&measured, |t| t.fastest));
         println!("{medians}  {fastest}  {}{note}", w.name);
     }

@@ -1,13 +1,17 @@
 //! The times of a workload: the Rust's, the library's, and those of a plain copy, in turn.
 //!
 //! Counted for the Rust: the call of `exec_binop` on series already made, so neither their copying before each turn (the Rust
-//! takes its arguments) nor the dropping of its answer. Counted for the library: the whole call on bytes, the taking of query
-//! and vectors included. Its output parts are lent anew each turn and never cleared; nothing is cleared in the measured time.
-//! The Rust's hashers and rayon are stand-ins: a quick hasher, and one thread.
+//! takes its arguments) nor the dropping of its answer; for an aggregate, the loop of `plain` on rows already made. Counted for
+//! the library: the whole call on bytes, the taking of query or request and of vectors included. Its output parts are lent anew
+//! each turn and never cleared; nothing is cleared in the measured time. The Rust's hashers and rayon are stand-ins: a quick
+//! hasher, and one thread.
 use std::time::Instant;
 
-use oracle::rust::argument;
-use reference::Call;
+use oracle::rust::{argument, Argument};
+use reference::Outcome;
+
+use crate::plain;
+use crate::workloads::Work;
 
 /// Of one program's turns, in microseconds: on a busy machine the fastest says more.
 pub struct Times {
@@ -29,24 +33,33 @@ pub struct Measured {
     pub copy: Times,
 }
 
-pub fn measure(call: &Call, turns: usize) -> Measured {
-    let (query, left, right) = reference::taken(call).expect("a good call");
-    let (mut rust, mut copy) = (Vec::new(), Vec::new());
-    let mut plain_copy = Copy::of(call);
-    #[cfg(feature = "library")]
-    let (mut library, mut lent) = (Vec::new(), Lent::of(call));
+pub fn measure(work: &Work, turns: usize) -> Measured {
+    match work {
+        Work::Query(call) => {
+            let (query, left, right) = reference::taken(call).expect("a good call");
+            let made = || argument(&query, &left, &right).expect("UTF-8");
+            in_turn(work, turns, made, |a: Argument| metricsql_runtime::exec_binop(a.op, &a.modifier, a.left, a.right))
+        }
+        Work::Aggregate(call) => {
+            let (by, points, rows) = plain::made(call);
+            in_turn(work, turns, || (), |()| plain::aggregated(&by, points, &rows))
+        }
+    }
+}
+
+/// The copy, the Rust on what is made for it before each turn, and the library.
+fn in_turn<A, T>(work: &Work, turns: usize, made: impl Fn() -> A, run: impl Fn(A) -> T) -> Measured {
+    let (mut rust, mut copy, mut library) = (Vec::new(), Vec::new(), Vec::new());
+    let (mut plain_copy, mut linked) = (Copy::of(work), linked(work));
     for _ in 0..turns {
         timed(&mut copy, || plain_copy.turn());
-        let a = argument(&query, &left, &right).expect("UTF-8");
-        timed(&mut rust, || metricsql_runtime::exec_binop(a.op, &a.modifier, a.left, a.right));
-        #[cfg(feature = "library")]
-        timed(&mut library, || lent.turn(call));
+        let argument = made();
+        timed(&mut rust, || run(argument));
+        if let Some(run) = &mut linked {
+            timed(&mut library, run);
+        }
     }
-    #[cfg(not(feature = "library"))]
-    let library = None;
-    #[cfg(feature = "library")]
-    let library = Some(Times::of(library));
-    Measured { rust: Times::of(rust), library, copy: Times::of(copy) }
+    Measured { rust: Times::of(rust), library: linked.map(|_| Times::of(library)), copy: Times::of(copy) }
 }
 
 /// What the work gives is dropped here, behind the measured time.
@@ -65,10 +78,14 @@ struct Copy {
 }
 
 impl Copy {
-    fn of(call: &Call) -> Copy {
-        let mut input = [call.left.as_slice(), &call.right].concat();
-        input.resize(input.len() + words(call.left_labels.len()) + words(call.right_labels.len()), 0);
-        let answer = reference::call(call).expect("an answer");
+    fn of(work: &Work) -> Copy {
+        let (inputs, answer): (Vec<(&[u8], &[u64])>, Outcome) = match work {
+            Work::Query(c) => (vec![(&c.left_labels, &c.left), (&c.right_labels, &c.right)], reference::call(c)),
+            Work::Aggregate(c) => (vec![(&c.labels, &c.readings)], reference::aggregate(c)),
+        };
+        let mut input = inputs.iter().flat_map(|(_, readings)| readings.iter().copied()).collect::<Vec<_>>();
+        input.resize(input.len() + inputs.iter().map(|(labels, _)| words(labels.len())).sum::<usize>(), 0);
+        let answer = answer.expect("an answer");
         Copy { input, out: vec![0; answer.readings.len() + words(answer.labels.len())] }
     }
 
@@ -88,22 +105,29 @@ fn words(bytes: usize) -> usize {
     bytes.div_ceil(8)
 }
 
-/// The output parts that are lent to the library.
+/// The library's turn, into output parts of its own.
 #[cfg(feature = "library")]
-struct Lent {
-    labels: Vec<u8>,
-    readings: Vec<u64>,
+fn linked(work: &Work) -> Option<impl FnMut() -> Result<nosingcatnip::Answer, nosingcatnip::Refusal> + '_> {
+    use nosingcatnip::{exec_aggregate, exec_binop, Side};
+    let room = match work {
+        Work::Query(call) => call.room,
+        Work::Aggregate(call) => call.room,
+    };
+    let (mut labels, mut readings) = (vec![0; room.labels], vec![0; room.readings]);
+    Some(move || match work {
+        Work::Query(c) => {
+            let left = Side { labels: &c.left_labels, readings: &c.left };
+            let right = Side { labels: &c.right_labels, readings: &c.right };
+            exec_binop(&c.query, left, right, &mut labels, &mut readings)
+        }
+        Work::Aggregate(c) => {
+            let vector = Side { labels: &c.labels, readings: &c.readings };
+            exec_aggregate(&c.request, vector, &mut labels, &mut readings)
+        }
+    })
 }
 
-#[cfg(feature = "library")]
-impl Lent {
-    fn of(call: &Call) -> Lent {
-        Lent { labels: vec![0; call.room.labels], readings: vec![0; call.room.readings] }
-    }
-
-    fn turn(&mut self, call: &Call) -> Result<nosingcatnip::Answer, nosingcatnip::Refusal> {
-        let left = nosingcatnip::Side { labels: &call.left_labels, readings: &call.left };
-        let right = nosingcatnip::Side { labels: &call.right_labels, readings: &call.right };
-        nosingcatnip::exec_binop(&call.query, left, right, &mut self.labels, &mut self.readings)
-    }
+#[cfg(not(feature = "library"))]
+fn linked(_: &Work) -> Option<fn()> {
+    None
 }

@@ -1,12 +1,20 @@
 //! The inputs that are measured, the same on every machine.
 use oracle::cases::plain;
 use oracle::random::Random;
-use reference::{Call, Join, Labels, Matching, Operator, Query, Room, Series, Tag, Vector, MISSING};
+use reference::{Aggregate, AggregateCall, Call, Grouping, Join, Labels, Matching, Operator, Query, Request, Room};
+use reference::{Series, Tag, Vector, MISSING};
 
 pub struct Workload {
     pub name: String,
-    pub call: Call,
+    pub work: Work,
 }
+
+pub enum Work {
+    Query(Call),
+    Aggregate(AggregateCall),
+}
+
+const ROOM: Room = Room { labels: 65_535, readings: 524_288 };
 
 /// Where readings are missing. Series of one key share out the points, so that they merge.
 #[derive(Clone, Copy)]
@@ -52,7 +60,7 @@ fn tag(key: &str, value: usize) -> Tag {
 }
 
 fn made(name: String, query: &Query, left: &Vector, right: &Vector) -> Workload {
-    Workload { name, call: oracle::cases::call(query, left, right, Room { labels: 65_535, readings: 524_288 }) }
+    Workload { name, work: Work::Query(oracle::cases::call(query, left, right, ROOM)) }
 }
 
 fn spelling(query: &Query) -> String {
@@ -106,9 +114,9 @@ fn join_query() -> Query {
     }
 }
 
-/// The many side of a join: each series has a form of its own, and the presses take turns.
-fn forms(r: &mut Random, n: usize, presses: usize, p: usize) -> Vector {
-    let mut many = side(r, n, p, 1, 0, Gaps::Random);
+/// The many side of a join, or the vector of an aggregate: each series has a form of its own, and the presses take turns.
+fn forms(r: &mut Random, n: usize, presses: usize, p: usize, gaps: Gaps) -> Vector {
+    let mut many = side(r, n, p, 1, 0, gaps);
     for (i, s) in many.series.iter_mut().enumerate() {
         s.labels.tags = vec![tag("form", i), tag("press", i % presses)];
     }
@@ -117,7 +125,7 @@ fn forms(r: &mut Random, n: usize, presses: usize, p: usize) -> Vector {
 
 /// One one-side series a key, and every `many / one` many-side series share one.
 fn join(r: &mut Random, many: usize, one: usize, p: usize) -> Workload {
-    let left = forms(r, many, one, p);
+    let left = forms(r, many, one, p, Gaps::Random);
     let mut right = side(r, one, p, 1, 0, Gaps::Random);
     for (i, s) in right.series.iter_mut().enumerate() {
         s.labels.tags = vec![tag("press", i), tag("stock", i % 4)];
@@ -129,7 +137,7 @@ fn join(r: &mut Random, many: usize, one: usize, p: usize) -> Workload {
 /// the Rust's using up of its one side does not show.
 fn join_merged(r: &mut Random, each: usize, p: usize) -> Workload {
     let keys = 512 / each;
-    let left = forms(r, keys, keys, p);
+    let left = forms(r, keys, keys, p, Gaps::Random);
     let mut right = side(r, 512, p, each, 0, Gaps::Alternate);
     for (i, s) in right.series.iter_mut().enumerate() {
         s.labels.tags = vec![tag("press", i / each), tag("stock", i / each % 4)];
@@ -139,7 +147,7 @@ fn join_merged(r: &mut Random, each: usize, p: usize) -> Workload {
 
 /// One many-side series that meets 512 one-side series, each with a stock of its own and so an answer series.
 fn join_apart(r: &mut Random, p: usize) -> Workload {
-    let left = forms(r, 1, 1, p);
+    let left = forms(r, 1, 1, p, Gaps::Random);
     let mut right = side(r, 512, p, 1, 0, Gaps::Random);
     for (i, s) in right.series.iter_mut().enumerate() {
         s.labels.tags = vec![tag("press", 0), tag("stock", i)];
@@ -151,6 +159,18 @@ fn join_apart(r: &mut Random, p: usize) -> Workload {
 fn labelled(r: &mut Random, op: Operator) -> Workload {
     let (left, right) = (side(r, 512, 16, 1, 3, Gaps::Random), side(r, 512, 16, 1, 3, Gaps::Random));
     made(format!("{}, 512 series of 16 points, three tags", op.spelling()), &plain(op), &left, &right)
+}
+
+/// `sum by (press)` of 512 series that so many presses share.
+fn sum_by(r: &mut Random, presses: usize, p: usize, gaps: (&str, Gaps)) -> Workload {
+    let request = Request { aggregate: Aggregate::Sum, grouping: Grouping::By, list: vec![b"press".to_vec()] };
+    let vector = forms(r, 512, presses, p, gaps.1);
+    let each = 512 / presses;
+    let groups = if presses == 1 { format!("one group of {each}") } else { format!("{presses} groups of {each}") };
+    Workload {
+        name: format!("sum by, 512 series of {p} points, {groups}, gaps: {}", gaps.0),
+        work: Work::Aggregate(oracle::aggregates::call(&request, &vector, ROOM)),
+    }
 }
 
 pub fn workloads() -> Vec<Workload> {
@@ -185,6 +205,9 @@ pub fn workloads() -> Vec<Workload> {
     }
     for p in [64, 128, 256, 512] {
         all.push(sum(r, 256, p, GAPS[0]));
+    }
+    for presses in [16, 1] {
+        all.extend(GAPS.map(|gaps| sum_by(r, presses, 1024, gaps)));
     }
     all
 }

@@ -1,7 +1,7 @@
-/* Labelled vector operators over series with gaps. docs/SCOPE.md of the project says what a query, a label part and a
- * refusal are.
+/* Labelled vector operators and aggregates over series with gaps. docs/SCOPE.md of the project says what a query, a
+ * request, a label part and a refusal are.
  *
- * Link with libnosingcatnip.a and -lm. The function keeps nothing between calls, so calls on disjoint output parts may
+ * Link with libnosingcatnip.a and -lm. The functions keep nothing between calls, so calls on disjoint output parts may
  * run at the same time. */
 #ifndef NOSINGCATNIP_H
 #define NOSINGCATNIP_H
@@ -15,7 +15,7 @@ extern "C" {
 
 /* What a call reports, by index into its result. */
 enum {
-    NOSINGCATNIP_NUMBER = 0,      /* 0 for an answer, else the refusal's number, 1 to 13 */
+    NOSINGCATNIP_NUMBER = 0,      /* 0 for an answer, else the refusal's number, 1 to 14 */
     NOSINGCATNIP_FIELD_1 = 1,     /* the refusal's first field; 0 for an answer */
     NOSINGCATNIP_FIELD_2 = 2,     /* the refusal's second field; 0 for an answer */
     NOSINGCATNIP_SERIES = 3,      /* the answer's series; 0 for a refusal */
@@ -48,6 +48,27 @@ void nosingcatnip_exec_binop(
     const uint64_t *left, size_t left_len,
     const uint8_t *right_labels, size_t right_labels_len,
     const uint64_t *right, size_t right_len,
+    uint8_t *out_labels, size_t out_labels_len,
+    uint64_t *out, size_t out_len,
+    uint64_t result[NOSINGCATNIP_RESULT]);
+
+/* Runs an aggregate over one vector.
+ *
+ * The request is a byte for the aggregate (0 sum, 1 min, 2 max, 3 count, 4 avg), a byte for the grouping (0 by, 1
+ * without), and a list of labels: their number, one byte, 0 to 32, and each behind its length, one byte, 1 to 255. An
+ * aggregate above 4 is refused with 14, whatever follows; every other fault of the request with 2.
+ *
+ * By keeps the listed tags, and the name if __name__ is listed; without removes the listed tags, and always the name.
+ * The series whose labels are then equal, name included, form one series of the answer, in the order of their first
+ * places. At each point missing readings are skipped, and a point without a reading is missing, for count too. The sum
+ * adds in the order of the series; avg is that sum divided by the count.
+ *
+ * The vector's parts are those of a side above, and its faults are refused as a left side's. The answer has its start
+ * and step. The output parts, the result and the pointers are as above. */
+void nosingcatnip_exec_aggregate(
+    const uint8_t *request, size_t request_len,
+    const uint8_t *labels, size_t labels_len,
+    const uint64_t *readings, size_t readings_len,
     uint8_t *out_labels, size_t out_labels_len,
     uint64_t *out, size_t out_len,
     uint64_t result[NOSINGCATNIP_RESULT]);

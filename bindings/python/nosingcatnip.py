@@ -24,6 +24,11 @@ nosingcatnip.Refusal: left series 1, {form="1"}, cannot be merged into left seri
 key, and its readings overlap those merged so far at more points than the 2 allowed; overlap(N) in the query allows N, \
 up to 8
 
+An aggregate is taken over one vector, by labels that are kept or without labels that are removed:
+
+>>> print(nosingcatnip.exec_aggregate('sum without (form)', twice))
+{} 5 7 9
+
 Rows may lie in any buffer of 64-bit floats, an array or a numpy array: they are read where they lie, not copied.
 
 >>> from array import array
@@ -44,12 +49,14 @@ import re
 import struct
 from array import array
 
-__all__ = ['Refusal', 'Vector', 'encode_query', 'encode_record', 'exec_binop', 'label_text', 'number_text']
+__all__ = ['Refusal', 'Vector', 'encode_aggregation', 'encode_query', 'encode_record', 'exec_aggregate', 'exec_binop',
+           'label_text', 'number_text']
 
 NAME = '__name__'
 HOUR = 3600000
 OPERATORS = (
     '+', 'and', 'atan2', 'default', '/', '==', '%', '*', '^', '-', '>', '>=', 'if', 'ifnot', '<', '<=', '!=', 'or', 'unless')
+AGGREGATES = ('sum', 'min', 'max', 'count', 'avg')
 
 # The scope document's limits. What a call is given is held to them by the library, not here.
 MAX_SERIES, MAX_POINTS, MAX_TAGS, MAX_LABEL_BYTES, MAX_ALLOWANCE = 512, 1024, 32, 65535, 8
@@ -61,7 +68,7 @@ SIZES = struct.Struct('<HHHQI')
 
 
 class Refusal(ValueError):
-    """The library's refusal of a call: its number, 1 to 13, its two fields, and as text what it means, with the series
+    """The library's refusal of a call: its number, 1 to 14, its two fields, and as text what it means, with the series
     that it is about by side, place and labels."""
 
     def __init__(self, number, fields, words):
@@ -181,6 +188,26 @@ def encode_query(text):
             raise ValueError(f'query: did not expect {word!r}')
     head = bytes([OPERATORS.index(name.lower()), matching, join, flags])
     return head + _listed(matched) + _listed(joined) + bytes([ALLOWANCE if overlap is None else overlap])
+
+
+def encode_aggregation(text):
+    """The bytes of a request for an aggregate: sum, min, max, count or avg, then by or without and a list of labels. Without
+    either all series are one group.
+
+    >>> encode_aggregation('avg without (form)').hex(' ')
+    '04 01 01 04 66 6f 72 6d'
+    """
+    found = _words(text)
+    name = found.pop(0) if found else ''
+    if name.lower() not in AGGREGATES:
+        raise ValueError(f'query: {name!r} is no aggregate; there are {" ".join(AGGREGATES)}')
+    grouping = found.pop(0) if found else None
+    if grouping not in (None, 'by', 'without'):
+        raise ValueError(f'query: did not expect {grouping!r}; an aggregate is by or without labels')
+    labels = _label_list(found, grouping) if grouping else []
+    if found:
+        raise ValueError(f'query: did not expect {found[0]!r}')
+    return bytes([AGGREGATES.index(name.lower()), int(grouping == 'without')]) + _listed(labels)
 
 
 # vectors
@@ -350,11 +377,9 @@ class Vector:
 
 # refusals in words
 
-SIDES = ('left', 'right')
-
-
 def _series(vector, side, place):
-    return f'{side} series {place + 1}, {label_text(vector.labels[place])}' if place < len(vector) else f'the {side} vector'
+    """A series by its place; the side is left or right, or empty where a call has one vector."""
+    return f'{side} series {place + 1}, {label_text(vector.labels[place])}'.lstrip()
 
 
 def _unmerged(points, allowed):
@@ -371,40 +396,40 @@ def _duplicate(vector, side, kept, other, allowed):
             f'they have the same key, and {_unmerged(vector.points, allowed)}')
 
 
-def _out_of_bounds(vector, side, place):
-    """Number 3: what of a vector, or of one of its series, is over its limit."""
+def _fault(number, vector, side, place):
+    """Numbers 3, 4, 5 and 11: what is wrong with a vector, or with one of its series."""
+    name = f'the {side} vector' if side else 'the vector'
+    if number == 4:
+        return f'{_series(vector, side, place)}, has a tag with an empty key'
+    if number == 5:
+        return (f'{name} has {len(vector.readings)} readings; {len(vector)} series of {vector.points} points have '
+                f'{len(vector) * vector.points}')
+    if number == 11 and vector.start > MAX_START:
+        return f'{name} starts at {vector.start}; a start is 0 to {MAX_START}, in milliseconds'
+    if number == 11:
+        return f'{name} has the step {vector.step}; a step is 1 to {MAX_STEP}, in milliseconds'
     if len(vector) > MAX_SERIES:
-        return f'the {side} vector has {len(vector)} series; a vector has at most {MAX_SERIES}'
+        return f'{name} has {len(vector)} series; a vector has at most {MAX_SERIES}'
     if vector.points > MAX_POINTS:
-        return f'the {side} vector has {vector.points} points; a vector has at most {MAX_POINTS}'
+        return f'{name} has {vector.points} points; a vector has at most {MAX_POINTS}'
     return f'{_series(vector, side, place)}, has more than {MAX_TAGS} tags'
 
 
-def _off_grid(vector, side):
-    """Number 11."""
-    if vector.start > MAX_START:
-        return f'the {side} vector starts at {vector.start}; a start is 0 to {MAX_START}, in milliseconds'
-    return f'the {side} vector has the step {vector.step}; a step is 1 to {MAX_STEP}, in milliseconds'
-
-
 def _meaning(number, first, second, query, sides):
-    """A refusal in words. Fields are a side and a place, or two places on the side that the number says."""
+    """A refusal in words. Fields are a side and a place, or two places on the side that the number says. Sides are vectors
+    by their names."""
+    names, vectors = list(sides), list(sides.values())
     if number in (3, 4, 5, 11):
-        vector, side = sides[first], SIDES[first]
-        return {
-            3: _out_of_bounds(vector, side, second),
-            4: f'{_series(vector, side, second)}, has a tag with an empty key',
-            5: f'the {side} vector has {len(vector.readings)} readings; {len(vector)} series of {vector.points} points '
-               f'have {len(vector) * vector.points}',
-            11: _off_grid(vector, side),
-        }[number]
+        return _fault(number, vectors[first], names[first], second)
     if number in (7, 8):
-        return _duplicate(sides[number - 7], SIDES[number - 7], first, second, query[-1])
+        return _duplicate(vectors[number - 7], names[number - 7], first, second, query[-1])
     if number == 1:
         return f'{OPERATORS[query[0]] if query[0] < len(OPERATORS) else query[0]} is no operator that is carried'
     if number == 13:
         return f'the query allows {query[-1]} overlapping points; {MAX_ALLOWANCE} are the most'
-    left, right = sides
+    if number == 14:
+        return f'{query[0]} is the number of no aggregate'
+    left, right = vectors[0], vectors[-1]
     return {
         2: 'the query is malformed',
         6: f'the two sides have different numbers of points: the left {left.points}, the right {right.points}',
@@ -456,8 +481,8 @@ def _library():
     if path is None:
         raise OSError(f'{built} is not there; bindings/build makes it')
     library = ctypes.CDLL(path)
-    library.nosingcatnip_exec_binop.argtypes = [ctypes.c_void_p, ctypes.c_size_t] * 7 + [ctypes.c_void_p]
-    library.nosingcatnip_exec_binop.restype = None
+    for function, parts in (library.nosingcatnip_exec_binop, 7), (library.nosingcatnip_exec_aggregate, 5):
+        function.argtypes, function.restype = [ctypes.c_void_p, ctypes.c_size_t] * parts + [ctypes.c_void_p], None
     return library
 
 
@@ -467,6 +492,29 @@ def _apart(outputs, inputs):
         for other, others, length in outputs[:i] + inputs:
             if where < other + others * length and other < where + count * item:
                 raise ValueError('a part that is lent for the answer lies over another part of the call')
+
+
+def _called(name, query, sides, most, out_labels, out):
+    """The answer of a function of the library, of at most so many series, over sides, vectors by their names."""
+    vectors = list(sides.values())
+    if out_labels is None:
+        out_labels = bytearray(MAX_LABEL_BYTES)
+    if out is None:
+        points = min(max(vector.points for vector in vectors), MAX_POINTS)
+        out = memoryview(bytearray(8 * min(most, MAX_SERIES) * points)).cast('d')
+    out_labels, out = memoryview(out_labels).cast('B'), _flat(memoryview(out))
+    result = (ctypes.c_uint64 * 8)()
+    with _Lent() as lent:
+        inputs = [lent.part(query, 1)]
+        for vector in vectors:
+            inputs += [lent.part(vector.part, 1), lent.part(vector.readings, 8)]
+        outputs = [lent.part(out_labels, 1, writable=True), lent.part(out, 8, writable=True)]
+        _apart(outputs, inputs)
+        getattr(_library(), name)(*(number for part in inputs + outputs for number in part[:2]), result)
+    number, first, second, series, points, start, step, label_bytes = result
+    if number:
+        raise Refusal(number, (first, second), _meaning(number, first, second, query, sides))
+    return Vector._answered(series, points, start, step, bytes(out_labels[:label_bytes]), out[:series * points])
 
 
 def exec_binop(query, left, right, out_labels=None, out=None):
@@ -483,20 +531,19 @@ def exec_binop(query, left, right, out_labels=None, out=None):
     nosingcatnip.Refusal: the two sides have different numbers of points: the left 1, the right 2
     """
     query = encode_query(query) if isinstance(query, str) else bytes(query)
-    if out_labels is None:
-        out_labels = bytearray(MAX_LABEL_BYTES)
-    if out is None:
-        series, points = min(len(left) + len(right), MAX_SERIES), min(max(left.points, right.points), MAX_POINTS)
-        out = memoryview(bytearray(8 * series * points)).cast('d')
-    out_labels, out = memoryview(out_labels).cast('B'), _flat(memoryview(out))
-    result = (ctypes.c_uint64 * 8)()
-    with _Lent() as lent:
-        inputs = [lent.part(query, 1), lent.part(left.part, 1), lent.part(left.readings, 8),
-                  lent.part(right.part, 1), lent.part(right.readings, 8)]
-        outputs = [lent.part(out_labels, 1, writable=True), lent.part(out, 8, writable=True)]
-        _apart(outputs, inputs)
-        _library().nosingcatnip_exec_binop(*(number for part in inputs + outputs for number in part[:2]), result)
-    number, first, second, series, points, start, step, label_bytes = result
-    if number:
-        raise Refusal(number, (first, second), _meaning(number, first, second, query, (left, right)))
-    return Vector._answered(series, points, start, step, bytes(out_labels[:label_bytes]), out[:series * points])
+    return _called('nosingcatnip_exec_binop', query, {'left': left, 'right': right}, len(left) + len(right), out_labels, out)
+
+
+def exec_aggregate(request, vector, out_labels=None, out=None):
+    """The aggregate of a vector's series, group by group, a Vector; or Refusal. Missing readings are skipped; a point where
+    a group has none is missing.
+
+    The request is text, as encode_aggregation takes it, or the bytes of the scope document; for the rest see exec_binop.
+
+    >>> counts = Vector([{'press': 'A'}, {'press': 'B'}, {'press': 'A'}], [[1, None], [2, None], [4, 8]])
+    >>> print(exec_aggregate('max by (press)', counts))
+    {press="A"} 4 8
+    {press="B"} 2 -
+    """
+    request = encode_aggregation(request) if isinstance(request, str) else bytes(request)
+    return _called('nosingcatnip_exec_aggregate', request, {'': vector}, len(vector), out_labels, out)

@@ -5,6 +5,8 @@ import random
 from wire import ALL, IGNORING, ON, label_list, label_part, part, record, tag_fields
 
 BUCKETS = 16384
+# added to the matching: the name is in the key
+NAMED = 3
 
 
 def side_part(side):
@@ -12,7 +14,7 @@ def side_part(side):
 
 
 def key_of(matching, names, tags):
-    """The tags of the key; the name is in none."""
+    """The tags of the key."""
     if matching == ON:
         return [t for t in tags if t[0] in names]
     if matching == IGNORING:
@@ -20,16 +22,17 @@ def key_of(matching, names, tags):
     return tags
 
 
-def numbers(matching, names, left, right):
-    """The first place, over left and then right, of each series' key."""
-    keys = [key_of(matching, names, tags) for _, tags in left + right]
+def numbers(choice, names, left, right):
+    """The first place, over left and then right, of each series' key, with its name where the choice says so."""
+    named, matching = divmod(choice, NAMED)
+    keys = [(named and name, key_of(matching, names, tags)) for name, tags in left + right]
     places = [keys.index(k) for k in keys]
     return places[:len(left)], places[len(left):]
 
 
-def hash_of(tags):
+def hash_of(tags, name=b''):
     h = 0
-    for b in tag_fields(tags):
+    for b in tag_fields(tags) + name:
         h = h % 2**39 * 16777619 + b
     return h
 
@@ -73,10 +76,27 @@ def empty_values():
 
 
 def names():
-    """The name is in no key, listed or not."""
+    """The name is in no key, listed or not, unless it is asked for."""
     one, two = series(b'one', a='1'), series(b'two', a='1')
     for matching, listing in (ALL, []), (ON, [b'a']), (ON, [b'__name__']), (ON, [b'__name__', b'a']), (IGNORING, [b'__name__']):
         yield matching, listing, [one, two, series(b'one', a='2')], [two, series(a='1'), series(b'one')]
+
+
+def named():
+    """Keys with the name in them: names that begin other names, no name, and the bytes of a tag as a name."""
+    one, two = series(b'one', a='1'), series(b'two', a='1')
+    lists = (ALL, []), (ON, [b'a']), (ON, []), (ON, [b'__name__']), (IGNORING, [b'a']), (IGNORING, [b'b'])
+    for matching, listing in lists:
+        yield NAMED + matching, listing, [one, two, series(b'one', a='2')], [two, series(a='1'), series(b'one'), one]
+    short, long, none = series(b'on'), series(b'one'), series()
+    yield NAMED + ALL, [], [short, long, none], [long, none, series(b'o'), short]
+    yield NAMED + ALL, [], [series(a='1'), series(tag_fields([(b'a', b'1')]))], [series(b'a1'), series(a='1')]
+    every = [series(b'name-%d' % (i % 90), zone=f'z{i % 4}') for i in range(400)]
+    yield NAMED + ALL, [], every[:200], every[200:]
+    yield NAMED + ON, [], every[:200], every[200:]
+    like, other = (series(v.encode() + b'.', a='1') for v in ALIKE)
+    assert hash_of(like[1], like[0]) == hash_of(other[1], other[0])
+    yield NAMED + ALL, [], [like, other], [other, like, like]
 
 
 def nothing_left():
@@ -121,15 +141,15 @@ def buckets():
     yield ALL, [], [other, like, like], [like, other]
 
 
-def given(matching, listing, left, right):
-    return bytes([matching]) + part(label_list(listing)) + part(side_part(left)) + part(side_part(right))
+def given(choice, listing, left, right):
+    return bytes([choice]) + part(label_list(listing)) + part(side_part(left)) + part(side_part(right))
 
 
 def shown(left, right):
     return ''.join(f' {k}' for k in left) + ' |' + ''.join(f' {k}' for k in right) + '\n'
 
 
-cases = [*equal_keys(), *prefixes(), *empty_values(), *names(), *nothing_left(), *full_sides(), *buckets()]
+cases = [*equal_keys(), *prefixes(), *empty_values(), *names(), *named(), *nothing_left(), *full_sides(), *buckets()]
 FILES = {
     'test_keys/stdin': b''.join(given(*case) for case in cases),
     'test_keys/stdout': ''.join(shown(*numbers(*case)) for case in cases),

@@ -1,6 +1,6 @@
-//! Labelled vector operators over series with gaps. Every call of [`exec_binop`] ends, allocates nothing, and gives
-//! either a complete valid vector or one refusal. docs/SCOPE.md of the project says what a query, a label part and a
-//! refusal are.
+//! Labelled vector operators and aggregates over series with gaps. Every call of [`exec_binop`], over two vectors,
+//! and of [`exec_aggregate`], over one, ends, allocates nothing, and gives either a complete valid vector or one
+//! refusal. docs/SCOPE.md of the project says what a query, a request, a label part and a refusal are.
 //!
 //! [`Vector`] writes a side of a call, and [`Answer::read`] gives an answer's series:
 //!
@@ -31,7 +31,7 @@ use std::fmt;
 
 pub use vector::{EncodeError, Vector};
 
-/// A refusal: its number, 1 to 13, and its two fields.
+/// A refusal: its number, 1 to 14, and its two fields. The one vector of an aggregate is named as the left side.
 ///
 /// ```
 /// let refusal = nosingcatnip::Refusal { number: 7, fields: [2, 0] };
@@ -51,7 +51,7 @@ impl fmt::Display for Refusal {
         write!(f, "refused {number} {first} {second}: ")?;
         match number {
             1 => write!(f, "the operator is above 18, or 2 (atan2), or 8 (^)"),
-            2 => write!(f, "the query is malformed"),
+            2 => write!(f, "the query or request is malformed"),
             3 => write!(f, "sizes, label length or record {second} out of bounds on the {side}"),
             4 => write!(f, "an empty key, keys out of order or a key __name__ in record {second} on the {side}"),
             5 => write!(f, "not as many readings as series times points on the {side}"),
@@ -63,6 +63,7 @@ impl fmt::Display for Refusal {
             11 => write!(f, "start or step out of range on the {side}"),
             12 => write!(f, "the two sides have different starts or steps"),
             13 => write!(f, "the allowance is above 8"),
+            14 => write!(f, "the aggregate is above 4"),
             _ => write!(f, "no refusal has this number"),
         }
     }
@@ -72,7 +73,7 @@ impl Error for Refusal {}
 
 /// The sizes of an answer. Its label records are the first `label_bytes` of the lent label part, its rows the first
 /// `series * points` of the lent readings. Reading i of a row is of the time `start + i * step`, in milliseconds: the
-/// grid of both sides.
+/// grid of all vectors of the call.
 #[derive(Clone, Copy, Debug, PartialEq, Eq)]
 pub struct Answer {
     pub series: usize,
@@ -118,7 +119,7 @@ pub struct Series<'a> {
     pub row: Vec<f64>,
 }
 
-/// One side of a call: a label part and the readings' bits, row by row. The label part has 18 bytes of sizes (series,
+/// One vector of a call: a label part and the readings' bits, row by row. The label part has 18 bytes of sizes (series,
 /// points, length of the label array, two bytes each; start, eight; step, four; little-endian), then the label array.
 #[derive(Clone, Copy, Debug)]
 pub struct Side<'a> {
@@ -139,6 +140,20 @@ extern "C" {
         right_labels_len: usize,
         right: *const u64,
         right_len: usize,
+        out_labels: *mut u8,
+        out_labels_len: usize,
+        out: *mut u64,
+        out_len: usize,
+        result: *mut u64,
+    );
+
+    fn nosingcatnip_exec_aggregate(
+        request: *const u8,
+        request_len: usize,
+        labels: *const u8,
+        labels_len: usize,
+        readings: *const u64,
+        readings_len: usize,
         out_labels: *mut u8,
         out_labels_len: usize,
         out: *mut u64,
@@ -201,6 +216,63 @@ pub fn exec_binop(
             result.as_mut_ptr(),
         );
     }
+    reported(result)
+}
+
+/// Runs an aggregate over one vector into the two lent output parts. A refusal leaves both as they were; an answer
+/// changes only its own length at the start of each.
+///
+/// The request is a byte for the aggregate (0 sum, 1 min, 2 max, 3 count, 4 avg), a byte for the grouping (0 by, 1
+/// without), and a list: the number of its labels, and each label behind its length. An aggregate above 4 is refused
+/// with 14, whatever follows.
+///
+/// By keeps the listed tags, and the name if `__name__` is listed; without removes the listed tags, and always the
+/// name. The series whose labels are then equal, name included, form one series of the answer, in the order of their
+/// first places. Missing readings are skipped, and a point without a reading is missing, for count too.
+///
+/// ```
+/// use nosingcatnip::{exec_aggregate, Vector};
+///
+/// let mut fed = Vector::new(2, 0, 3_600_000);
+/// fed.push("fed", &[("press", "A"), ("stock", "matt")], &[10.0, f64::NAN])?;
+/// fed.push("fed", &[("press", "B"), ("stock", "gloss")], &[4.0, f64::NAN])?;
+/// fed.push("fed", &[("press", "C"), ("stock", "matt")], &[2.5, 6.0])?;
+/// let (mut labels, mut readings) = ([0; 64], [0; 8]);
+/// // sum, by, a list of one label
+/// let request = b"\0\0\x01\x05stock";
+/// let answer = exec_aggregate(request, fed.side(), &mut labels, &mut readings)?;
+/// let totals: Vec<_> = answer.read(&labels, &readings).collect();
+/// assert_eq!(totals.len(), 2);
+/// assert_eq!(totals[0].tags, [(&b"stock"[..], &b"matt"[..])]);
+/// assert_eq!(totals[0].row, [12.5, 6.0]);
+/// assert_eq!(totals[1].tags, [(&b"stock"[..], &b"gloss"[..])]);
+/// assert_eq!(totals[1].row[0], 4.0);
+/// assert!(totals[1].row[1].is_nan());
+/// # Ok::<(), Box<dyn std::error::Error>>(())
+/// ```
+pub fn exec_aggregate(request: &[u8], vector: Side, out_labels: &mut [u8], out: &mut [u64]) -> Result<Answer, Refusal> {
+    let mut result = [0u64; 8];
+    // SAFETY: as in `exec_binop`.
+    unsafe {
+        nosingcatnip_exec_aggregate(
+            request.as_ptr(),
+            request.len(),
+            vector.labels.as_ptr(),
+            vector.labels.len(),
+            vector.readings.as_ptr(),
+            vector.readings.len(),
+            out_labels.as_mut_ptr(),
+            out_labels.len(),
+            out.as_mut_ptr(),
+            out.len(),
+            result.as_mut_ptr(),
+        );
+    }
+    reported(result)
+}
+
+/// What the eight numbers of a call say.
+fn reported(result: [u64; 8]) -> Result<Answer, Refusal> {
     let [number, first, second, series, points, start, step, label_bytes] = result;
     match number {
         // An answer's series and points have two bytes in its sizes, its step four.

@@ -1,5 +1,5 @@
 //! Sides that are built, answers that are read back, and refusals in words.
-use nosingcatnip::{exec_binop, Answer, EncodeError, Refusal, Series, Side, Vector};
+use nosingcatnip::{exec_aggregate, exec_binop, Answer, EncodeError, Refusal, Series, Side, Vector};
 
 /// The operators by their numbers.
 const PLUS: u8 = 0;
@@ -147,7 +147,7 @@ fn each_refusal_is_told_in_words() {
     };
     let (plus, none, one) = (query(PLUS), bare(0), vector(1, &[("", &[], &[1.0])]));
     told(&query(ATAN2), &one, &one, "refused 1 0 0: the operator is above 18, or 2 (atan2), or 8 (^)");
-    told(&[], &one, &one, "refused 2 0 0: the query is malformed");
+    told(&[], &one, &one, "refused 2 0 0: the query or request is malformed");
     let words = "sizes, label length or record 0 out of bounds on the";
     told(&plus, &bare(513), &none, &format!("refused 3 0 0: {words} left"));
     told(&plus, &none, &Vector::new(1_025, 0, 1), &format!("refused 3 1 0: {words} right"));
@@ -173,7 +173,9 @@ fn each_refusal_is_told_in_words() {
     told(&plus, &none, &Vector::new(0, u64::MAX, 1), "refused 11 1 0: start or step out of range on the right");
     told(&plus, &none, &Vector::new(0, 1, 1), "refused 12 0 0: the two sides have different starts or steps");
     told(&[PLUS, 0, 0, 0, 0, 0, 9], &one, &one, "refused 13 0 0: the allowance is above 8");
-    for number in [0, 14] {
+    let above = exec_aggregate(&[5], one.side(), &mut [], &mut []).unwrap_err();
+    assert_eq!(above.to_string(), "refused 14 0 0: the aggregate is above 4");
+    for number in [0, 15] {
         let words = format!("refused {number} 1 2: no refusal has this number");
         assert_eq!(Refusal { number, fields: [1, 2] }.to_string(), words);
     }

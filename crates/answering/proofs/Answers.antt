@@ -45,11 +45,13 @@ labels-same : (rule : Rule) (first second : List ℕ) (s : Sides) → ruleLabels
 labels-same (R.Pairs q) first second s = refl
 labels-same (R.Join w) first second s = refl
 labels-same (R.Set op) first second s = refl
+labels-same (R.Groups g) first second s = refl
 
 rows-same : (rule : Rule) (s : Sides) (codes marks : List ℕ) → planRow rule (rowsOnly s) codes marks ≡ planRow rule s codes marks
 rows-same (R.Pairs q) s codes marks = refl
 rows-same (R.Join w) s codes marks = refl
 rows-same (R.Set op) s codes marks = refl
+rows-same (R.Groups g) s codes marks = refl
 
 module _ (s : Sides) (held : BothHeld s) where
   pub both-formed : BothFormed (labelledOnly s)
@@ -69,11 +71,13 @@ module _ (s : Sides) (held : BothHeld s) where
     one = omega (arith, k .one, held .right .count);
   }
   record-in (R.Set op) c k = record { below = omega (arith, k .below, held .left .count, held .right .count) }
+  record-in (R.Groups g) c k = record { below = omega (arith, k .below, held .left .count) }
 
   code-in : (rule : Rule) (c : ℕ) → CodeIn rule s c → CodeIn rule (rowsOnly s) c
   code-in (R.Pairs q) c k = record { left = k .left; right = k .right }
   code-in (R.Join w) c k = record { many = k .many; one = k .one }
   code-in (R.Set op) c k = record { below = k .below }
+  code-in (R.Groups g) c k = record { below = k .below }
 
 -- the plan carried out
 

@@ -22,12 +22,14 @@ use Rattle.set_series.proofs.Rows as Set
 use Rattle.answering.specs.declared.families.Rule.{Rule}
 use Rattle.answering.specs.declared.families.Rule.the-variants as R
 use Rattle.answering.specs.families.Codes.{ruleRow, planRow, CodeIn, CodesIn, WorkRoom, WorkKept}
+use Rattle.answering.proofs.families.Grouping.{group-wide}
 
 -- the row of a code is as wide as the readings
 row-wide : (rule : Rule) (s : Sides) → BothRowsHeld s → (marks : List ℕ) (c : ℕ) → CodeIn rule s c → length (ruleRow rule s marks c) ≡ s .shape .points
 row-wide (R.Pairs q) s h marks c k = Pair.coded-wide (q .operator) (q .«as_bool») s h c k
 row-wide (R.Join w) s h marks c k = join-row-wide s c h k w marks
 row-wide (R.Set op) s h marks c k = Set.coded-wide _ s h c k
+row-wide (R.Groups g) s h marks c k = group-wide g s h c k
 
 -- the rows before k are written, and the work rows and the list of places are as long as they were made
 pub record RowsDone (rule : Rule) (s : Sides) (codes marks before left right places out : List ℕ) (k : ℕ) : Type 0 where
@@ -36,7 +38,7 @@ pub record RowsDone (rule : Rule) (s : Sides) (codes marks before left right pla
   pub marked : length codes * 8 ≤ length marks
   pub left-long : length left ≡ 1024
   pub right-long : length right ≡ 1024
-  pub places-long : length places ≡ 512
+  pub places-long : length places ≡ 1024
   pub done : RowsWriting (planRow rule s codes marks) (s .shape .points) (upTo (length codes)) before k out
 
 module _ (rule : Rule) (p : ℕ) (lkeys lrows rkeys rrows codes marks before : List ℕ) where
@@ -45,7 +47,7 @@ module _ (rule : Rule) (p : ℕ) (lkeys lrows rkeys rrows codes marks before : L
 
   pub rows-begin : BothRowsHeld (rowSides p lkeys lrows rkeys rrows) → CodesIn rule (rowSides p lkeys lrows rkeys rrows) codes
       → length codes * 8 ≤ length marks → length codes * p ≤ length before
-      → (left right places : List ℕ) → length left ≡ 1024 → length right ≡ 1024 → length places ≡ 512
+      → (left right places : List ℕ) → length left ≡ 1024 → length right ≡ 1024 → length places ≡ 1024
       → RowsDone rule (rowSides p lkeys lrows rkeys rrows) codes marks before left right places before 0
   rows-begin h c m r left right places l l′ l″ = record {
     held = h;
@@ -78,7 +80,7 @@ module _ (rule : Rule) (p : ℕ) (lkeys lrows rkeys rrows codes marks before : L
     pub right-made : 1024 ≡ length right
     right-made = sym (inv .right-long)
 
-    pub places-made : 512 ≡ length places
+    pub places-made : 1024 ≡ length places
     places-made = sym (inv .places-long)
 
     module _ (h : k < length codes) where

@@ -1,2 +1,3 @@
+pub mod Grouping
 pub mod Arms
 pub mod Plans

@@ -2,27 +2,39 @@
 use answers::Planned;
 use join_series::Work;
 use kept_labels::Size;
+use labels::Matching;
 use operator::Operator;
+use query::Aggregate;
 use query::Query;
 use side_parts::Shape;
 ghost use mathlib.Core.Path.{_≡_};
-ghost use Prim.Native.Nat.{_≤_};
+ghost use Prim.Native.Nat.{_+_, _≤_, _<_};
 ghost use lib.ListN.{length};
 ghost use Rattle.model.specs.Limits.{maxSeries};
 ghost use Rattle.model.specs.Record.{encode};
 ghost use Rattle.writing.specs.Written.{Put};
+ghost use Rattle.side_parts.specs.Sides.{recordAt, Positions};
 ghost use Rattle.side_parts.specs.Lent.{Sides, sides, shapeOf, lent, labelled, unlabelled, BothHeld, BothFormed, BothRowsHeld};
+ghost use Rattle.end_codes.specs.Codes.{sideFirst};
 ghost use Rattle.answers.specs.Tallies.{SizedRecord};
 ghost use Rattle.join_records.specs.Records.{LabelRoom};
 ghost use Rattle.join_plan.specs.place_plans.Places.{Clean};
 ghost use Rattle.answering.specs.families.Codes.{ruleLabels, ruleRow, RecordIn, CodeIn, WorkRoom, WorkKept};
 ghost use Rattle.answering.specs.families.Plans.{RulePlanned};
 
+// What an aggregate does with each group of the first side's series: the tags that its label keeps, and whether it keeps the name.
+pub struct Groups {
+    pub aggregate: Aggregate,
+    pub matching: Matching,
+    pub named: bool,
+}
+
 // A rule. Beside it two lists of labels are lent.
 pub enum Rule {
     Pairs(Query), // one-to-one: the first list is that of the matching
     Join(Work), // a join, its many side the first: the labels that it joins by, and those that it leaves alone
     Set(Operator), // a set operator: its lists are not read
+    Groups(Groups), // an aggregate: the first list is that of its grouping; the second side is not read
 }
 
 // Plans a rule's answer: its rows are listed by their codes, with eight words of marks each for a join; nothing else is written.
@@ -56,7 +68,17 @@ pub(crate) fn plan(
         Rule::Set(op) => {
             Planned::Rows(set_plan::plan_set(op, shape, labels, at, keys, rows, codes))
         }
+        Rule::Groups(g) => Planned::Rows(group_plan::plan_groups(keys[0], codes)),
     }
+}
+
+// The record of a group of the first side's series: that of its first.
+fn group_record<'a>(array: &'a [u8], at: &[usize], code: usize) -> &'a [u8]
+    requires { ⌜ Positions (now array) (now at) ⌝ }
+    requires { ⌜ sideFirst code + 1 < length (now at) ⌝ }
+    ensures { λ r. ⌜ now r ≡ recordAt (now (array .entry)) (now (at .entry)) (sideFirst code) ⌝ }
+{
+    side_parts::record(array, at, end_codes::side_first(code))
 }
 
 // The size of the record of a code.
@@ -80,6 +102,11 @@ pub(crate) fn record_size(
             join_records::join_record_size(naming, lists, labels, at, code)
         }
         Rule::Set(op) => set_records::set_record_size(labels, at, code),
+        Rule::Groups(g) => {
+            let rec = group_record(labels[0], at[0], code);
+            let matching = g.matching;
+            kept_labels::kept_size(rec, matching, lists[0], g.named)
+        }
     }
 }
 
@@ -112,6 +139,11 @@ pub(crate) fn put_record(
             join_records::put_join_record(naming, lists, labels, at, code, out, o)
         }
         Rule::Set(op) => set_records::put_set_record(labels, at, code, out, o),
+        Rule::Groups(g) => {
+            let rec = group_record(labels[0], at[0], code);
+            let matching = g.matching;
+            kept_labels::put_kept(out, o, rec, matching, lists[0], g.named)
+        }
     }
 }
 
@@ -146,5 +178,18 @@ pub(crate) fn put_row(
         }
         Rule::Join(w) => join_series::put_join_row(w, keys, rows, code, marks, left_work, out),
         Rule::Set(op) => set_series::put_set_row(op, keys, rows, code, places, out),
+        Rule::Groups(g) => {
+            let aggregate = g.aggregate;
+            group_series::put_group_row(
+                aggregate,
+                keys[0],
+                rows[0],
+                code,
+                left_work,
+                right_work,
+                places,
+                out,
+            )
+        }
     }
 }

@@ -6,6 +6,7 @@ use answers::Outcome;
 use answers::Planned;
 use answers::Room;
 use answers::Tally;
+pub use families::Groups;
 pub use families::Rule;
 use operator::Operator;
 use side_parts::Shape;
@@ -101,7 +102,7 @@ fn put_rows(
 {
     let mut left_work = [0u64; 1024];
     let mut right_work = [0u64; 1024];
-    let mut places = [0usize; 512];
+    let mut places = [0usize; 1024];
     let mut k: usize = 0;
     while k < codes.len() {
         let first = k * 8;

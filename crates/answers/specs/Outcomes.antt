@@ -11,7 +11,7 @@ use Rattle.answers.specs.declared.Told.{Told}
 use Rattle.answers.specs.declared.Told.the-variants as T
 use Rattle.answers.specs.declared.Outcome.{Outcome}
 use Rattle.answers.specs.declared.Outcome.the-variants.{Answer, BadOperator, Malformed, Cut, BadKey, Readings, Unequal, LeftTwice, RightTwice}
-use Rattle.answers.specs.declared.Outcome.the-variants.{TooLarge, TooLong, BadGrid, GridsDiffer, BadAllowance}
+use Rattle.answers.specs.declared.Outcome.the-variants.{TooLarge, TooLong, BadGrid, GridsDiffer, BadAllowance, BadAggregate}
 
 -- an answer's series, shape and label bytes; or a refusal's number and fields
 abbrev pub answer : ℕ → Shape → ℕ → Told
@@ -36,6 +36,7 @@ told TooLong = refusal 10 0 0
 told (BadGrid side) = refusal 11 side 0
 told GridsDiffer = refusal 12 0 0
 told BadAllowance = refusal 13 0 0
+told BadAggregate = refusal 14 0 0
 
 abbrev pub wanted : Call.Outcome → Told
 wanted (refused n a b) = refusal n a b

@@ -45,6 +45,7 @@ pub enum Outcome {
     },
     GridsDiffer,
     BadAllowance,
+    BadAggregate,
 }
 
 // An outcome in the numbers of 01 and 02.
@@ -98,6 +99,7 @@ pub fn told_as(x: Outcome) -> Told
         Outcome::BadGrid { side } => refusal(11, side, 0),
         Outcome::GridsDiffer => refusal(12, 0, 0),
         Outcome::BadAllowance => refusal(13, 0, 0),
+        Outcome::BadAggregate => refusal(14, 0, 0),
     }
 }
 

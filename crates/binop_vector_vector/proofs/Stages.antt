@@ -7,27 +7,21 @@ use mathlib.Core.Logic.{inl, inr}
 use types.Run.{OneOf}
 use denote.Enum.Declared.{tagOf}
 use native.Mathlib.Omega.{arith}
-use lib.ListN.{length, getD, take, drop, length-append}
+use lib.ListN.{length, take, drop, length-append}
 use lib.Seq.{length-take-le, take-at}
 use lib.Dec.{eqb}
 use borrow.Author.Tests.{eq-eqb, ne-eqb, not-true, not-false}
 use Rattle.model.specs.Limits.{sizesLength}
 use Rattle.model.specs.Query as Model
-use Rattle.model.specs.Vector.{Series, Shape, Vector, takeVector, labelPart}
-use Rattle.model.specs.Laws.Vector.{taken-is}
+use Rattle.model.specs.Vector.{Shape, Vector}
 use Rattle.semantics.specs.Call as Call
-use Rattle.semantics.specs.Call.{running, sameGrid, onVector, call}
+use Rattle.semantics.specs.Call.{running, sameGrid, call}
 use Rattle.query.specs.declared.Query.{Query}
 use Rattle.query.specs.declared.Request.{Request}
 use Rattle.query.specs.declared.Request.the-variants as R
 use Rattle.query.specs.Queries.{queryOf, requestNumber, matchingPart, TakenAs}
 use Rattle.query.proofs.Request.{the-type as request-type}
 use Rattle.query.proofs.Takes.{query-taken, operator-refused, query-malformed, allowance-refused}
-use Rattle.timeseries.specs.declared.Taken.{Taken}
-use Rattle.timeseries.specs.declared.Taken.the-variants as T
-use Rattle.timeseries.proofs.Taken.{the-type as taken-type}
-use Rattle.timeseries.specs.Takes.{TakenInto, takenNumber, takenPlace}
-use Rattle.timeseries.specs.TakeLaws.{taken-refused}
 use Rattle.answers.specs.declared.Outcome.{Outcome}
 use Rattle.answers.specs.declared.Outcome.the-variants as Out
 use Rattle.answers.specs.Outcomes.{Ran, told, refusal}
@@ -38,31 +32,9 @@ use Rattle.side_parts.specs.declared.Shape as Code
 use Rattle.side_parts.specs.Lent.{Sides, shapeOf, BothHeld}
 use Rattle.keyed_sides.specs.Keyed.{dropsMissing, KeysKept, SidesKeyed, withKeys, kept-keyed-by}
 use Rattle.keyed_sides.specs.TakenSides.{TakenSide, lentVector, Took}
+use Rattle.vector_faults.proofs.Faults.{ran-taken}
 use Rattle.binop_vector_vector.specs.dispatch.Runs.{Asked, ranTaken}
 use Rattle.binop_vector_vector.specs.Stages.{asked-carried, leftStage, rightStage, call-asked, call-operator, call-malformed, call-allowance}
-
--- `fault_of`
-
-module _ (side : ℕ) (t : Taken) where
-  pub fault-cut : (i : ℕ) → t ≡ T.Cut i → told (Out.Cut side i) ≡ refusal (takenNumber t) side (takenPlace t)
-  fault-cut i e = rw e
-
-  pub fault-bad-key : (i : ℕ) → t ≡ T.BadKey i → told (Out.BadKey side i) ≡ refusal (takenNumber t) side (takenPlace t)
-  fault-bad-key i e = rw e
-
-  pub fault-readings : t ≡ T.Readings → told (Out.Readings side) ≡ refusal (takenNumber t) side (takenPlace t)
-  fault-readings e = rw e
-
-  pub fault-grid : t ≡ T.BadGrid → told (Out.BadGrid side) ≡ refusal (takenNumber t) side (takenPlace t)
-  fault-grid e = rw e
-
--- a vector is not refused
-pub fault-none : (t : Taken) {A : Type 0} → 0 < takenNumber t → tagOf taken-type t ≡ 0 → A
-fault-none (T.Vector n shape) h e = absurd (omega (arith, h))
-fault-none (T.Cut i) h e = absurd (omega (arith, e))
-fault-none (T.BadKey i) h e = absurd (omega (arith, e))
-fault-none T.Readings h e = absurd (omega (arith, e))
-fault-none T.BadGrid h e = absurd (omega (arith, e))
 
 -- `refusal_of`
 
@@ -125,32 +97,6 @@ module _ (s : List ℕ) (r : Request) (h : TakenAs s (Model.takeQuery s) r) wher
         → Ran (leftStage (queryOf s q) labels readings labels′ readings′ (length labels₀) (length out₀)) labels₀ out₀ d o x
         → Ran (call s labels readings labels′ readings′ (length labels₀) (length out₀)) labels₀ out₀ d o x
     ran-asked q e d o x k = rw (call-asked s labels readings labels′ readings′ (length labels₀) (length out₀) (queryOf s q) (asked-as q e)) k
-
--- a side that is refused, or taken, and what follows
-
-pub taken-number : (t : Taken) → OneOf (1 ∷ 2 ∷ 3 ∷ 4 ∷ []) (tagOf taken-type t) → 0 < takenNumber t
-taken-number (T.Vector n shape) h = absurd (not-zero h)
-  where
-    not-zero : OneOf (1 ∷ 2 ∷ 3 ∷ 4 ∷ []) 0 → ⊥
-    not-zero (inl e) = omega (arith, e)
-    not-zero (inr (inl e)) = omega (arith, e)
-    not-zero (inr (inr (inl e))) = omega (arith, e)
-    not-zero (inr (inr (inr e))) = omega (arith, e)
-taken-number (T.Cut i) h = omega arith
-taken-number (T.BadKey i) h = omega arith
-taken-number T.Readings h = omega arith
-taken-number T.BadGrid h = omega arith
-
-module _ (side : ℕ) (s x : List ℕ) (f : Vector → Call.Outcome) (labels₀ out₀ : List ℕ) where
-  pub ran-fault : (before after : List ℕ) (t : Taken) → TakenInto s x before t after → (y : Outcome) → 0 < takenNumber t
-      → told y ≡ refusal (takenNumber t) side (takenPlace t) → Ran (onVector (takeVector side s x) f) labels₀ out₀ labels₀ out₀ y
-  ran-fault before after t into y n e =
-      rw (taken-refused side s x t (into .answer) n) (record { outcome = e; labelPart = refl; readingPart = refl })
-
-  pub ran-taken : (after : List ℕ) (n : ℕ) (shape : Shape) → Took side s x after n shape → (d o : List ℕ) (y : Outcome)
-      → Ran (f (lentVector shape (take (length s - sizesLength) (drop sizesLength s)) (take (n + 1) after) x)) labels₀ out₀ d o y
-      → Ran (onVector (takeVector side s x) f) labels₀ out₀ d o y
-  ran-taken after n shape took d o y k = rw (took .vector) k
 
 -- `grids_differ`
 module _ (left right : Code.Shape) where

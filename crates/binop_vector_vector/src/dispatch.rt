@@ -97,6 +97,7 @@ fn first_side(rule: Rule) -> usize
         Rule::Pairs(_) => 0,
         Rule::Join(w) => { if w.left { 0 } else { 1 } }
         Rule::Set(_) => 0,
+        Rule::Groups(_) => 0,
     }
 }
 

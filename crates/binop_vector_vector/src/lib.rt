@@ -18,7 +18,6 @@ ghost use Rattle.labels.specs.Matchings.{matchingOf};
 ghost use Rattle.query.specs.Queries.{queryOf, requestNumber};
 ghost use Rattle.semantics.specs.Call.{call, sameGrid};
 ghost use Rattle.side_parts.specs.Lent.{Sides, lent, BothHeld, shapeOf};
-ghost use Rattle.timeseries.specs.Takes.{takenNumber, takenPlace};
 ghost use Rattle.answers.specs.Outcomes.{Ran, told, refusal};
 ghost use Rattle.keyed_sides.specs.TakenSides.{TakenSide};
 ghost use Rattle.keyed_sides.specs.Keyed.{dropsMissing, KeysKept};
@@ -34,23 +33,6 @@ fn refusal_of(asked: Request) -> Outcome
         Request::Malformed => Outcome::Malformed,
         Request::BadAllowance => Outcome::BadAllowance,
         Request::Asked(_) => Outcome::Malformed,
-    }
-}
-
-// Why a side was refused.
-fn fault_of(side: usize, taken: Taken) -> Outcome
-    requires { ⌜ 0 < takenNumber taken ⌝ }
-    ensures { λ r. ⌜ told r ≡ refusal (takenNumber taken) side (takenPlace taken) ⌝ }
-{
-    match taken {
-        Taken::Cut(place) => Outcome::Cut { side, place },
-        Taken::BadKey(place) => Outcome::BadKey { side, place },
-        Taken::Readings => Outcome::Readings { side },
-        Taken::BadGrid => Outcome::BadGrid { side },
-        Taken::Vector {
-            series: _,
-            shape: _,
-        } => Outcome::Unequal,
     }
 }
 
@@ -167,7 +149,7 @@ pub fn exec_binop<'a>(
     let mut left_at = [0usize; 513];
     let l = timeseries::take_vector(left_labels, left, &mut left_at);
     let Taken::Vector { series: n, shape } = l else {
-        return fault_of(0, l);
+        return vector_faults::fault_of(0, l);
     };
     let mut right_at = [0usize; 513];
     let r = timeseries::take_vector(right_labels, right, &mut right_at);
@@ -176,7 +158,7 @@ pub fn exec_binop<'a>(
         shape: other,
     } = r
     else {
-        return fault_of(1, r);
+        return vector_faults::fault_of(1, r);
     };
     if other.points != shape.points {
         return Outcome::Unequal;

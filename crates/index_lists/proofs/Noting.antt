@@ -23,6 +23,11 @@ noted-here here x n before after e h = rw e (record { count = refl; content = h 
 pub noted-not : (here : Bool) (x n : ℕ) (before : List ℕ) → here ≡ false → NotedIf here x n before before n
 noted-not here x n before e = rw e (record { count = refl; content = refl })
 
+pub noted-most : (here : Bool) (x n i : ℕ) (before after : List ℕ) (r : ℕ) → n ≤ i → NotedIf here x n before after r
+    → r ≤ i + 1
+noted-most true x n i before after r h p = omega (arith, p .count)
+noted-most false x n i before after r h p = omega (arith, p .count)
+
 -- numbers noted while a list is walked: those left are noted from n on
 
 pub record Noting (all : List ℕ) (n₀ : ℕ) (before rest : List ℕ) (n : ℕ) (now : List ℕ) : Type 0 where
@@ -77,14 +82,10 @@ module _ (xs : List ℕ) (k first : ℕ) (before : List ℕ) where
       unfolding placesOf
       next = rw (drop-cons xs j 0 h, add-one)
 
-      few-more : (b : Bool) (later : List ℕ) (r : ℕ) → NotedIf b j n places later r → r ≤ j + 1
-      few-more true later r p = omega (arith, g .few, p .count)
-      few-more false later r p = omega (arith, g .few, p .count)
-
       pub gather-turn : (later : List ℕ) (r : ℕ) → NotedIf (eqb (getD xs j 0) k) j n places later r
           → Gathering xs k first before r (j + 1) later
       gather-turn later r p = record {
-        few = few-more (eqb (getD xs j 0) k) later r p;
+        few = noted-most (eqb (getD xs j 0) k) j n j places later r (g .few) p;
         noting = noting-turn all 0 before (eqb (getD xs j 0) k) j n places later behind r (rw next at (g .noting)) p;
       }
 

@@ -61,6 +61,10 @@ module _ (keys : List ℕ) (k c : ℕ) (h : EndsOf keys k c) where
   pub side-last : sideLast c ≡ lastOf keys k
   side-last = omega (arith, h .code, last-small keys (h .few) k)
 
+-- there is room for each place that is asked for
+pub ends-room : (keys asked ends : List ℕ) → SideEnds keys asked ends → (i : ℕ) → i < length asked → i < length ends
+ends-room keys asked ends e i h = omega (arith, e .room)
+
 -- each place that is asked for has the code of its key
 module _ (keys asked ends : List ℕ) (few : length keys ≤ 512) (e : SideEnds keys asked ends) where
   pub ends-at : (i : ℕ) → i < length asked → EndsOf keys (getD asked i 0) (getD ends i 0)

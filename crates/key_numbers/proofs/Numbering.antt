@@ -1,6 +1,7 @@
 -- `number_noted` and `number_left`: the keys numbered so far are those of the whole. Assumes nothing.
 use Prim.Native.Nat.{ℕ, suc, _+_, _*_, _^_, _≤_, _<_}
 use mathlib.Core.Path.{_≡_, refl, sym, ap, _∙_}
+use mathlib.Core.Bool.{Bool}
 use mathlib.Core.List.{List, [], _∷_, _++_, append-assoc, append-nil}
 use native.Mathlib.Numerals.{add-one}
 use native.Mathlib.Omega.{arith}
@@ -10,20 +11,19 @@ use lib.ListN.{length, getD, take, set, length-set, length-append}
 use lib.Seq.{take-suc, take-suc-set, take-all, length-take-le}
 use Rattle.model.specs.Labels.{Labels}
 use Rattle.model.specs.Edits.{Names}
-use Rattle.model.specs.Query.{Matching, keyOf}
+use Rattle.model.specs.Query.{Matching}
 use Rattle.model.specs.Laws.Lists.{map-append}
 use Rattle.labels.specs.Names.{namesOf}
 use Rattle.record_tags.specs.Lenient.{labelsOf}
-use Rattle.chosen_tags.specs.Keys.{recordKey, hashOf}
 use Rattle.side_parts.specs.Sides.{recordAt, labelsIn, Positions}
 use Rattle.side_parts.specs.SideLaws.{labels-at, labels-count, labels-first, positions-first}
-use Rattle.key_numbers.specs.key_lookup.Keys.{firstPlace, numbers, keyHashes, Hashed, Numbered}
+use Rattle.key_numbers.specs.key_lookup.Keys.{firstPlace, numbers, keyHash, keyHashes, Hashed, Numbered}
 use Rattle.key_numbers.specs.key_lookup.KeyLaws.{place-so-far}
 use Rattle.key_numbers.specs.key_lookup.Buckets.{buckets, noted, Noted}
 use Rattle.key_numbers.proofs.key_lookup.Noting.{noted-size, noting}
 
 -- i keys are numbered
-pub record Numbering (m : Matching) (list : List ℕ) (lefts : List Labels) (leftHashes array at : List ℕ)
+pub record Numbering (named : Bool) (m : Matching) (list : List ℕ) (lefts : List Labels) (leftHashes array at : List ℕ)
     (hashes₀ keys₀ table₀ hashes keys table : List ℕ) (i : ℕ) : Type 0 where
   pub positions : Positions array at
   pub count : length at ≡ length keys + 1
@@ -34,14 +34,15 @@ pub record Numbering (m : Matching) (list : List ℕ) (lefts : List Labels) (lef
   pub same-table : length table ≡ length table₀
   pub few-hashes : length leftHashes * 8 < 2 ^ 63
   pub few-keys : length keys * 8 < 2 ^ 63
-  pub alike : take i hashes ≡ keyHashes m (namesOf list) (take i (labelsIn array at))
-  pub numbered : take i keys ≡ numbers m (namesOf list) (lefts ++ labelsIn array at) (take i (labelsIn array at))
+  pub alike : take i hashes ≡ keyHashes named m (namesOf list) (take i (labelsIn array at))
+  pub numbered : take i keys ≡ numbers named m (namesOf list) (lefts ++ labelsIn array at) (take i (labelsIn array at))
   pub noted : Noted table (leftHashes ++ take i hashes)
 
-module _ (m : Matching) (list : List ℕ) (lefts : List Labels) (leftHashes array at hashes₀ keys₀ table₀ : List ℕ) where
+module _ (named : Bool) (m : Matching) (list : List ℕ) (lefts : List Labels)
+    (leftHashes array at hashes₀ keys₀ table₀ : List ℕ) where
   pub number-starts : Noted table₀ leftHashes → Positions array at → length at ≡ length keys₀ + 1
       → length hashes₀ ≡ length keys₀ → length leftHashes * 8 < 2 ^ 63 → length keys₀ * 8 < 2 ^ 63
-      → Numbering m list lefts leftHashes array at hashes₀ keys₀ table₀ hashes₀ keys₀ table₀ 0
+      → Numbering named m list lefts leftHashes array at hashes₀ keys₀ table₀ hashes₀ keys₀ table₀ 0
   number-starts t h e f l k = record {
     positions = h;
     count = e;
@@ -57,7 +58,8 @@ module _ (m : Matching) (list : List ℕ) (lefts : List Labels) (leftHashes arra
     noted = rw (append-nil leftHashes) t;
   }
 
-  module _ (hashes keys table : List ℕ) (i : ℕ) (n : Numbering m list lefts leftHashes array at hashes₀ keys₀ table₀ hashes keys table i) where
+  module _ (hashes keys table : List ℕ) (i : ℕ)
+      (n : Numbering named m list lefts leftHashes array at hashes₀ keys₀ table₀ hashes keys table i) where
     labels-long : length (labelsIn array at) ≡ length keys
     labels-long = labels-count array at ∙ (omega (arith, n .count))
 
@@ -92,18 +94,20 @@ module _ (m : Matching) (list : List ℕ) (lefts : List Labels) (leftHashes arra
       number-next = omega (arith, n .few-keys)
 
       -- the records so far, with their hashes
-      pub number-so-far : Hashed m (namesOf list) array (take (i + 1) at) (take i hashes)
+      pub number-so-far : Hashed named m (namesOf list) array (take (i + 1) at) (take i hashes)
       number-so-far =
           record {
             positions = positions-first array at (i + 1) (n .positions);
             count = omega (arith, number-cut, number-hashes);
-            alike = n .alike ∙ ap (keyHashes m (namesOf list)) (sym (labels-first array at i));
+            alike = n .alike ∙ ap (keyHashes named m (namesOf list)) (sym (labels-first array at i));
           }
 
-      pub number-turn : (rec : List ℕ) → rec ≡ recordAt array at i → (x : ℕ) → x ≡ hashOf (recordKey m list rec)
-          → (k : ℕ) → k ≡ firstPlace m (namesOf list) (lefts ++ labelsIn array (take (i + 1) at)) (labelsOf rec)
+      pub number-turn : (rec : List ℕ) → rec ≡ recordAt array at i
+          → (x : ℕ) → x ≡ keyHash named m (namesOf list) (labelsOf rec)
+          → (k : ℕ) → k ≡ firstPlace named m (namesOf list) (lefts ++ labelsIn array (take (i + 1) at)) (labelsOf rec)
           → (table′ : List ℕ) → table′ ≡ noted table x (length leftHashes + i)
-          → Numbering m list lefts leftHashes array at hashes₀ keys₀ table₀ (set hashes i x) (set keys i k) table′ (i + 1)
+          → Numbering named m list lefts leftHashes array at hashes₀ keys₀ table₀
+          (set hashes i x) (set keys i k) table′ (i + 1)
       number-turn rec hr x hx k hk table′ ht =
           let ls = labelsIn array at in
           let d = labelsOf [] in
@@ -111,10 +115,13 @@ module _ (m : Matching) (list : List ℕ) (lefts : List Labels) (leftHashes arra
           let within : i < length ls = omega (arith, labels-long) in
           let here : labelsOf rec ≡ l = ap labelsOf hr ∙ sym (labels-at array at i d number-inside) in
           let more : take (suc i) ls ≡ take i ls ++ (l ∷ []) = take-suc ls i d within in
-          let hash : x ≡ hashOf (keyOf m (namesOf list) (l .tags)) = hx ∙ ap (λ (y : Labels). hashOf (keyOf m (namesOf list) (y .tags))) here in
-          let number : k ≡ firstPlace m (namesOf list) (lefts ++ ls) l =
-          hk ∙ ap (λ (y : List Labels). firstPlace m (namesOf list) (lefts ++ y) (labelsOf rec)) (labels-first array at i)
-          ∙ ap (firstPlace m (namesOf list) (lefts ++ take i ls)) here ∙ place-so-far m (namesOf list) lefts ls i d within in
+          let hash : x ≡ keyHash named m (namesOf list) l = hx ∙ ap (keyHash named m (namesOf list)) here in
+          let number : k ≡ firstPlace named m (namesOf list) (lefts ++ ls) l =
+          hk
+          ∙ ap (λ (y : List Labels). firstPlace named m (namesOf list) (lefts ++ y) (labelsOf rec))
+          (labels-first array at i)
+          ∙ ap (firstPlace named m (namesOf list) (lefts ++ take i ls)) here
+          ∙ place-so-far named m (namesOf list) lefts ls i d within in
           let so-far : length (leftHashes ++ take i hashes) ≡ length leftHashes + i =
           length-append leftHashes (take i hashes) ∙ ap (λ (z : ℕ). length leftHashes + z) (sym number-hashes) in
           record {
@@ -134,16 +141,18 @@ module _ (m : Matching) (list : List ℕ) (lefts : List Labels) (leftHashes arra
                 (rw so-far at (noting table (leftHashes ++ take i hashes) x (n .noted)));
           }
 
-    pub number-ends : length keys ≤ i → Numbered m (namesOf list) lefts array at hashes keys
+    pub number-ends : length keys ≤ i → Numbered named m (namesOf list) lefts array at hashes keys
     number-ends h =
         let all : take i (labelsIn array at) ≡ labelsIn array at = take-all i (labelsIn array at) (omega (arith, labels-long)) in
         record {
           hashed = record {
             positions = n .positions;
             count = omega (arith, n .count, n .long);
-            alike = sym (take-all i hashes (omega (arith, n .long))) ∙ n .alike ∙ ap (keyHashes m (namesOf list)) all;
+            alike = sym (take-all i hashes (omega (arith, n .long))) ∙ n .alike
+                ∙ ap (keyHashes named m (namesOf list)) all;
           };
-          numbered = sym (take-all i keys h) ∙ n .numbered ∙ ap (numbers m (namesOf list) (lefts ++ labelsIn array at)) all;
+          numbered = sym (take-all i keys h) ∙ n .numbered
+              ∙ ap (numbers named m (namesOf list) (lefts ++ labelsIn array at)) all;
         }
 
 -- the left side has nothing before it
@@ -155,13 +164,16 @@ module _ (array at keys : List ℕ) (h : Positions array at) (k : length at ≡ 
   pub one-position : 1 ≡ length (take 1 at)
   one-position = sym (length-take-le 1 at (omega arith))
 
-  pub none-hashed : (m : Matching) (ns : Names) (none : List ℕ) → Hashed m ns array (take 1 at) (take 0 none)
-  none-hashed m ns none = record {
+  pub none-hashed : (named : Bool) (m : Matching) (ns : Names) (none : List ℕ)
+      → Hashed named m ns array (take 1 at) (take 0 none)
+  none-hashed named m ns none = record {
     positions = positions-first array at 1 h;
     count = sym one-position;
-    alike = sym (ap (keyHashes m ns) (no-records array at));
+    alike = sym (ap (keyHashes named m ns) (no-records array at));
   }
 
-pub none-before : (m : Matching) (ns : Names) (array at hashes keys : List ℕ)
-    → Numbered m ns (labelsIn array (take 1 at)) array at hashes keys → Numbered m ns [] array at hashes keys
-none-before m ns array at hashes keys n = record { hashed = n .hashed; numbered = n .numbered ∙ rw (no-records array at) }
+pub none-before : (named : Bool) (m : Matching) (ns : Names) (array at hashes keys : List ℕ)
+    → Numbered named m ns (labelsIn array (take 1 at)) array at hashes keys
+    → Numbered named m ns [] array at hashes keys
+none-before named m ns array at hashes keys n =
+    record { hashed = n .hashed; numbered = n .numbered ∙ rw (no-records array at) }

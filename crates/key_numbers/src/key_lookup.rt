@@ -1,30 +1,17 @@
 // The number of one record's key among the keys before it: by the place noted for its hash, and compared in full.
+use crate::record_keys;
 use labels::Matching;
 ghost use mathlib.Core.Path.{_≡_};
 ghost use Prim.Native.Nat.{_+_, _-_, _<_};
 ghost use mathlib.Core.List.{[], _++_};
 ghost use lib.ListN.{length, getD};
-ghost use Rattle.model.specs.Labels.{sameTags};
 ghost use Rattle.labels.specs.Names.{namesOf};
 ghost use Rattle.record_tags.specs.Lenient.{labelsOf};
 ghost use Rattle.labels.specs.Matchings.{matchingOf};
-ghost use Rattle.chosen_tags.specs.Keys.{recordKey, hashOf};
 ghost use Rattle.side_parts.specs.Sides.{labelsIn};
-ghost use Rattle.key_numbers.specs.key_lookup.Keys.{labelsOver, sameKeys, firstPlace, Hashed, BothHashed};
+ghost use Rattle.key_numbers.specs.key_lookup.Keys.{sameKeys, firstPlace, keyHash};
+ghost use Rattle.key_numbers.specs.key_lookup.Keys.{labelsOver, Hashed, BothHashed};
 ghost use Rattle.key_numbers.specs.key_lookup.Buckets.{buckets, bucketOf, Noted};
-
-// Whether two records with the hashes g and h of their keys have the same key. The hashes only spare the comparison.
-fn same_key(g: u64, a: &[u8], h: u64, b: &[u8], matching: Matching, list: &[u8]) -> bool
-    requires { ⌜ g ≡ hashOf (recordKey (matchingOf matching) (now list) (now a)) ⌝ }
-    requires { ⌜ h ≡ hashOf (recordKey (matchingOf matching) (now list) (now b)) ⌝ }
-    ensures { λ r. ⌜ r ≡ sameTags (recordKey (matchingOf matching) (now (list .entry)) (now (a .entry)))
-        (recordKey (matchingOf matching) (now (list .entry)) (now (b .entry))) ⌝ }
-{
-    if g != h {
-        return false;
-    }
-    signature::same_key(a, b, matching, list)
-}
 
 // The first record that has the key of another, with the hash h; or how many records there are.
 fn find_key(
@@ -33,21 +20,23 @@ fn find_key(
     hashes: &[u64],
     rec: &[u8],
     h: u64,
+    named: bool,
     matching: Matching,
     list: &[u8],
 ) -> usize
-    requires { ⌜ Hashed (matchingOf matching) (namesOf (now list)) (now array) (now at) (now hashes) ⌝ }
-    requires { ⌜ h ≡ hashOf (recordKey (matchingOf matching) (now list) (now rec)) ⌝ }
-    ensures { λ r. ⌜ r ≡ firstPlace (matchingOf matching) (namesOf (now (list .entry)))
+    requires { ⌜ Hashed named (matchingOf matching) (namesOf (now list)) (now array) (now at) (now hashes) ⌝ }
+    requires { ⌜ h ≡ keyHash named (matchingOf matching) (namesOf (now list)) (labelsOf (now rec)) ⌝ }
+    ensures { λ r. ⌜ r ≡ firstPlace named (matchingOf matching) (namesOf (now (list .entry)))
         (labelsIn (now (array .entry)) (now (at .entry))) (labelsOf (now (rec .entry))) ⌝ }
 {
     let mut i: usize = 0;
     while i < hashes.len() {
-        if same_key(
+        if record_keys::same_key(
             hashes[i],
             side_parts::record(array, at, i),
             h,
             rec,
+            named,
             matching,
             list,
         ) {
@@ -66,20 +55,22 @@ fn scan_number(
     hashes: &[u64],
     rec: &[u8],
     h: u64,
+    named: bool,
     matching: Matching,
     list: &[u8],
 ) -> usize
-    requires { ⌜ BothHashed (matchingOf matching) (namesOf (now list)) labels at (now «left_hashes») (now hashes) ⌝ }
-    requires { ⌜ h ≡ hashOf (recordKey (matchingOf matching) (now list) (now rec)) ⌝ }
-    ensures { λ r. ⌜ r ≡ firstPlace (matchingOf matching) (namesOf (now (list .entry)))
+    requires { ⌜ BothHashed named (matchingOf matching) (namesOf (now list)) labels at
+        (now «left_hashes») (now hashes) ⌝ }
+    requires { ⌜ h ≡ keyHash named (matchingOf matching) (namesOf (now list)) (labelsOf (now rec)) ⌝ }
+    ensures { λ r. ⌜ r ≡ firstPlace named (matchingOf matching) (namesOf (now (list .entry)))
         (labelsOver (labels .entry) (at .entry)) (labelsOf (now (rec .entry))) ⌝ }
 {
     let n = left_hashes.len();
-    let k = find_key(labels[0], at[0], left_hashes, rec, h, matching, list);
+    let k = find_key(labels[0], at[0], left_hashes, rec, h, named, matching, list);
     if k < n {
         return k;
     }
-    n + find_key(labels[1], at[1], hashes, rec, h, matching, list)
+    n + find_key(labels[1], at[1], hashes, rec, h, named, matching, list)
 }
 
 // What is noted at a hash's bucket.
@@ -99,25 +90,27 @@ fn has_key(
     j: usize,
     rec: &[u8],
     h: u64,
+    named: bool,
     matching: Matching,
     list: &[u8],
 ) -> bool
-    requires { ⌜ BothHashed (matchingOf matching) (namesOf (now list)) labels at (now «left_hashes») (now hashes) ⌝ }
+    requires { ⌜ BothHashed named (matchingOf matching) (namesOf (now list)) labels at
+        (now «left_hashes») (now hashes) ⌝ }
     requires { ⌜ j < length (now «left_hashes») + length (now hashes) ⌝ }
-    requires { ⌜ h ≡ hashOf (recordKey (matchingOf matching) (now list) (now rec)) ⌝ }
-    ensures { λ r. ⌜ r ≡ sameKeys (matchingOf matching) (namesOf (now (list .entry)))
+    requires { ⌜ h ≡ keyHash named (matchingOf matching) (namesOf (now list)) (labelsOf (now rec)) ⌝ }
+    ensures { λ r. ⌜ r ≡ sameKeys named (matchingOf matching) (namesOf (now (list .entry)))
         (getD (labelsOver (labels .entry) (at .entry)) j (labelsOf [])) (labelsOf (now (rec .entry))) ⌝ }
 {
     let before = left_hashes.len();
     if j < before {
         let g = left_hashes[j];
         let there = side_parts::record(labels[0], at[0], j);
-        return same_key(g, there, h, rec, matching, list);
+        return record_keys::same_key(g, there, h, rec, named, matching, list);
     }
     let k = j - before;
     let g = hashes[k];
     let own = side_parts::record(labels[1], at[1], k);
-    same_key(g, own, h, rec, matching, list)
+    record_keys::same_key(g, own, h, rec, named, matching, list)
 }
 
 // The number of a record's key, by the place noted for its hash: none before it has the key. Only where the series there
@@ -130,13 +123,15 @@ pub(crate) fn key_number(
     table: &[u16],
     rec: &[u8],
     h: u64,
+    named: bool,
     matching: Matching,
     list: &[u8],
 ) -> usize
-    requires { ⌜ BothHashed (matchingOf matching) (namesOf (now list)) labels at (now «left_hashes») (now hashes) ⌝ }
+    requires { ⌜ BothHashed named (matchingOf matching) (namesOf (now list)) labels at
+        (now «left_hashes») (now hashes) ⌝ }
     requires { ⌜ Noted (now table) (now «left_hashes» ++ now hashes) ⌝ }
-    requires { ⌜ h ≡ hashOf (recordKey (matchingOf matching) (now list) (now rec)) ⌝ }
-    ensures { λ r. ⌜ r ≡ firstPlace (matchingOf matching) (namesOf (now (list .entry)))
+    requires { ⌜ h ≡ keyHash named (matchingOf matching) (namesOf (now list)) (labelsOf (now rec)) ⌝ }
+    ensures { λ r. ⌜ r ≡ firstPlace named (matchingOf matching) (namesOf (now (list .entry)))
         (labelsOver (labels .entry) (at .entry)) (labelsOf (now (rec .entry))) ⌝ }
 {
     let n = left_hashes.len() + hashes.len();
@@ -144,8 +139,29 @@ pub(crate) fn key_number(
     if n <= j {
         return n;
     }
-    if has_key(labels, at, left_hashes, hashes, j, rec, h, matching, list) {
+    if has_key(
+        labels,
+        at,
+        left_hashes,
+        hashes,
+        j,
+        rec,
+        h,
+        named,
+        matching,
+        list,
+    ) {
         return j;
     }
-    scan_number(labels, at, left_hashes, hashes, rec, h, matching, list)
+    scan_number(
+        labels,
+        at,
+        left_hashes,
+        hashes,
+        rec,
+        h,
+        named,
+        matching,
+        list,
+    )
 }

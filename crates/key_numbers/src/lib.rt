@@ -1,5 +1,6 @@
 // The keys of two vectors, numbered by their first places, in expected linear time by a table of hashes.
 mod key_lookup; // the number of one record's key
+mod record_keys; // one record's key, hashed and compared
 
 use labels::Matching;
 ghost use mathlib.Core.Path.{_≡_};
@@ -41,18 +42,20 @@ fn number_noted(
     labels: [&[u8]; 2],
     at: [&[usize]; 2],
     left_hashes: &[u64],
+    named: bool,
     matching: Matching,
     list: &[u8],
     hashes: &mut [u64],
     keys: &mut [usize],
     table: &mut [u16],
 )
-    requires { ⌜ Hashed (matchingOf matching) (namesOf (now list)) (lent labels 0) (lent at 0) (now «left_hashes») ⌝ }
+    requires { ⌜ Hashed named (matchingOf matching) (namesOf (now list)) (lent labels 0) (lent at 0)
+        (now «left_hashes») ⌝ }
     requires { ⌜ Noted (now table) (now «left_hashes») ⌝ }
     requires { ⌜ Positions (lent labels 1) (lent at 1) ⌝ }
     requires { ⌜ length (lent at 1) ≡ length (now keys) + 1 ⌝ }
     requires { ⌜ length (now hashes) ≡ length (now keys) ⌝ }
-    ensures { λ _. ⌜ Numbered (matchingOf matching) (namesOf (now (list .entry)))
+    ensures { λ _. ⌜ Numbered named (matchingOf matching) (namesOf (now (list .entry)))
         (labelsIn (lent (labels .entry) 0) (lent (at .entry) 0)) (lent (labels .entry) 1) (lent (at .entry) 1)
         (now (hashes .exit)) (now (keys .exit)) ⌝ }
 {
@@ -60,7 +63,7 @@ fn number_noted(
     let mut i: usize = 0;
     while i < keys.len() {
         let rec = side_parts::record(labels[1], own, i);
-        let h = signature::hash_key(rec, matching, list);
+        let h = record_keys::hash_key(rec, named, matching, list);
         let e = i + 1;
         let k = key_lookup::key_number(
             labels,
@@ -70,6 +73,7 @@ fn number_noted(
             table,
             rec,
             h,
+            named,
             matching,
             list,
         );
@@ -87,16 +91,18 @@ pub fn number_right<'a, 'b>(
     left_hashes: &[u64],
     array: &'a [u8],
     at: &'b [usize],
+    named: bool,
     matching: Matching,
     list: &[u8],
     hashes: &mut [u64],
     keys: &mut [usize],
 )
-    requires { ⌜ Hashed (matchingOf matching) (namesOf (now list)) (now left) (now «left_at») (now «left_hashes») ⌝ }
+    requires { ⌜ Hashed named (matchingOf matching) (namesOf (now list)) (now left) (now «left_at»)
+        (now «left_hashes») ⌝ }
     requires { ⌜ Positions (now array) (now at) ⌝ }
     requires { ⌜ length (now at) ≡ length (now keys) + 1 ⌝ }
     requires { ⌜ length (now hashes) ≡ length (now keys) ⌝ }
-    ensures { λ _. ⌜ Numbered (matchingOf matching) (namesOf (now (list .entry)))
+    ensures { λ _. ⌜ Numbered named (matchingOf matching) (namesOf (now (list .entry)))
         (labelsIn (now (left .entry)) (now («left_at» .entry))) (now (array .entry)) (now (at .entry))
         (now (hashes .exit)) (now (keys .exit)) ⌝ }
 {
@@ -107,6 +113,7 @@ pub fn number_right<'a, 'b>(
         [left, array],
         [left_at, at],
         left_hashes,
+        named,
         matching,
         list,
         hashes,
@@ -119,6 +126,7 @@ pub fn number_right<'a, 'b>(
 pub fn number_left(
     array: &[u8],
     at: &[usize],
+    named: bool,
     matching: Matching,
     list: &[u8],
     hashes: &mut [u64],
@@ -127,7 +135,8 @@ pub fn number_left(
     requires { ⌜ Positions (now array) (now at) ⌝ }
     requires { ⌜ length (now at) ≡ length (now keys) + 1 ⌝ }
     requires { ⌜ length (now hashes) ≡ length (now keys) ⌝ }
-    ensures { λ _. ⌜ Numbered (matchingOf matching) (namesOf (now (list .entry))) [] (now (array .entry)) (now (at .entry))
+    ensures { λ _. ⌜ Numbered named (matchingOf matching) (namesOf (now (list .entry))) []
+        (now (array .entry)) (now (at .entry))
         (now (hashes .exit)) (now (keys .exit)) ⌝ }
 {
     let none = [0u64; 1];
@@ -137,6 +146,7 @@ pub fn number_left(
         &none[..0],
         array,
         at,
+        named,
         matching,
         list,
         hashes,

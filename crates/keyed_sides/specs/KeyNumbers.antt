@@ -1,6 +1,7 @@
 -- The code's key numbers are those of the plan. Assumes nothing.
 use Prim.Native.Nat.{ℕ, _+_, _≤_, _<_}
 use mathlib.Core.Path.{_≡_, refl, sym, ap, _∙_}
+use mathlib.Core.Bool.{false}
 use mathlib.Core.List.{List, [], _∷_, _++_}
 use native.Mathlib.Omega.{arith}
 use lib.Dec.{eqb}
@@ -30,7 +31,8 @@ label-at p ls readings i = sym (getD-labels (seriesOf p ls readings) i) ∙ ap (
 
 -- both sides numbered by first place
 module _ (q : Query) (p : ℕ) (lefts rights : List Labels) (rows rows′ keys keys′ : List ℕ)
-    (n : keys ≡ numbers (q .matching) (q .matchingList) lefts lefts) (n′ : keys′ ≡ numbers (q .matching) (q .matchingList) (lefts ++ rights) rights)
+    (n : keys ≡ numbers false (q .matching) (q .matchingList) lefts lefts)
+    (n′ : keys′ ≡ numbers false (q .matching) (q .matchingList) (lefts ++ rights) rights)
     (count : length keys ≡ length lefts) (count′ : length keys′ ≡ length rights) (few : length lefts ≤ 512) (few′ : length rights ≤ 512) where
   abbrev ls : List Series
   ls = seriesOf p lefts rows
@@ -40,7 +42,7 @@ module _ (q : Query) (p : ℕ) (lefts rights : List Labels) (rows rows′ keys k
 
   tells : (cs ds : List Labels) (xs ys rowsC rowsD : List ℕ)
       → ((i j : ℕ) → i < length cs → j < length ds → eqb (getD xs i 0) (getD ys j 0)
-      ≡ sameKeys (q .matching) (q .matchingList) (getD cs i noLabels) (getD ds j noLabels))
+      ≡ sameKeys false (q .matching) (q .matchingList) (getD cs i noLabels) (getD ds j noLabels))
       → TellsKeys q (seriesOf p cs rowsC) (seriesOf p ds rowsD) xs ys
   unfolding sameKey
   tells cs ds xs ys rowsC rowsD h =
@@ -54,11 +56,16 @@ module _ (q : Query) (p : ℕ) (lefts rights : List Labels) (rows rows′ keys k
       record {
         sameLeft = count ∙ sym (series-count p lefts rows);
         sameRight = count′ ∙ sym (series-count p rights rows′);
-        leftLeft = tells lefts lefts keys keys rows rows (left-left (q .matching) (q .matchingList) lefts rights keys keys′ n n′ noLabels);
-        leftRight = tells lefts rights keys keys′ rows rows′ (left-right (q .matching) (q .matchingList) lefts rights keys keys′ n n′ noLabels);
-        rightRight = tells rights rights keys′ keys′ rows′ rows′ (right-right (q .matching) (q .matchingList) lefts rights keys keys′ n n′ noLabels);
-        leftBelow = λ i h. let z = left-below (q .matching) (q .matchingList) lefts rights keys keys′ n n′ noLabels i
+        leftLeft = tells lefts lefts keys keys rows rows
+            (left-left false (q .matching) (q .matchingList) lefts rights keys keys′ n n′ noLabels);
+        leftRight = tells lefts rights keys keys′ rows rows′
+            (left-right false (q .matching) (q .matchingList) lefts rights keys keys′ n n′ noLabels);
+        rightRight = tells rights rights keys′ keys′ rows′ rows′
+            (right-right false (q .matching) (q .matchingList) lefts rights keys keys′ n n′ noLabels);
+        leftBelow = λ i h. let z = left-below false (q .matching) (q .matchingList) lefts rights
+            keys keys′ n n′ noLabels i
             (rw (series-count p lefts rows) at h) in omega (arith, z, few, few′);
-        rightBelow = λ i h. let z = right-below (q .matching) (q .matchingList) lefts rights keys keys′ n n′ noLabels i
+        rightBelow = λ i h. let z = right-below false (q .matching) (q .matchingList) lefts rights
+            keys keys′ n n′ noLabels i
             (rw (series-count p rights rows′) at h) in omega (arith, z, few, few′);
       }

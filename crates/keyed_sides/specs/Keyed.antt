@@ -31,8 +31,8 @@ keptKeys drops p rows keys = cond drops (droppedMissing p rows keys) keys
 
 -- the keys of both sides' labels, numbered by first place, the left ones first
 pub record BothNumbered (m : Matching) (ns : Names) (lefts rights : List Labels) (keys keys′ : List ℕ) : Type 0 where
-  pub left : keys ≡ numbers m ns lefts lefts
-  pub right : keys′ ≡ numbers m ns (lefts ++ rights) rights
+  pub left : keys ≡ numbers false m ns lefts lefts
+  pub right : keys′ ≡ numbers false m ns (lefts ++ rights) rights
 
 -- key numbers put in place of those before
 abbrev pub withKeys : Sides → List ℕ → List ℕ → Sides
@@ -71,10 +71,11 @@ module _ (q : Query) (s : Sides) (b : BothHeld s) (keys keys′ : List ℕ)
   rights = sideLabels (s .right)
 
   as-many : length keys ≡ length lefts
-  as-many = ap length (n .left) ∙ length-map lefts (firstPlace (q .matching) (q .matchingList) lefts)
+  as-many = ap length (n .left) ∙ length-map lefts (firstPlace false (q .matching) (q .matchingList) lefts)
 
   as-many-right : length keys′ ≡ length rights
-  as-many-right = ap length (n .right) ∙ length-map rights (firstPlace (q .matching) (q .matchingList) (lefts ++ rights))
+  as-many-right = ap length (n .right)
+      ∙ length-map rights (firstPlace false (q .matching) (q .matchingList) (lefts ++ rights))
 
   left-keys : length keys ≡ length (s .left .keys)
   left-keys = as-many ∙ sym (labels-many p (s .left) (b .left))
@@ -122,12 +123,13 @@ module _ (m : Matching) (ns : Names) (x : Sides) (b : BothHeld x) (keys keys′ 
     (n : BothNumbered m ns (sideLabels (x .left)) (sideLabels (x .right)) keys keys′) where
   left-many : length keys ≡ length (x .left .keys)
   left-many =
-      ap length (n .left) ∙ length-map (sideLabels (x .left)) (firstPlace m ns (sideLabels (x .left)))
+      ap length (n .left) ∙ length-map (sideLabels (x .left)) (firstPlace false m ns (sideLabels (x .left)))
       ∙ sym (labels-many (x .shape .points) (x .left) (b .left))
 
   right-many : length keys′ ≡ length (x .right .keys)
   right-many =
-      ap length (n .right) ∙ length-map (sideLabels (x .right)) (firstPlace m ns (sideLabels (x .left) ++ sideLabels (x .right)))
+      ap length (n .right) ∙ length-map (sideLabels (x .right))
+      (firstPlace false m ns (sideLabels (x .left) ++ sideLabels (x .right)))
       ∙ sym (labels-many (x .shape .points) (x .right) (b .right))
 
   pub numbered-rows : length (x .left .rows) ≡ length keys * x .shape .points
@@ -138,10 +140,11 @@ module _ (m : Matching) (ns : Names) (x : Sides) (b : BothHeld x) (keys keys′ 
 
 -- both sides' keys numbered, then those of series that take no part dropped
 pub record KeysKept (m : Matching) (ns : Names) (drops : Bool) (s : Sides) (keys keys′ : List ℕ) : Type 0 where
-  pub left : keys ≡ keptKeys drops (s .shape .points) (s .left .rows) (numbers m ns (sideLabels (s .left)) (sideLabels (s .left)))
+  pub left : keys ≡ keptKeys drops (s .shape .points) (s .left .rows)
+      (numbers false m ns (sideLabels (s .left)) (sideLabels (s .left)))
   pub right :
       keys′ ≡ keptKeys drops (s .shape .points) (s .right .rows)
-      (numbers m ns (sideLabels (s .left) ++ sideLabels (s .right)) (sideLabels (s .right)))
+      (numbers false m ns (sideLabels (s .left) ++ sideLabels (s .right)) (sideLabels (s .right)))
 
 -- numbered first, then dropped
 pub keys-kept : (m : Matching) (ns : Names) (drops : Bool) (s : Sides) (keys keys′ kept kept′ : List ℕ)
@@ -159,5 +162,6 @@ pub kept-keyed-by : (q : Query) (drops : Bool) (s : Sides) → BothHeld s → (k
 kept-keyed-by q drops s b keys keys′ k =
     let lefts = sideLabels (s .left) in
     let rights = sideLabels (s .right) in
-    sides-keyed q s b (numbers (q .matching) (q .matchingList) lefts lefts) (numbers (q .matching) (q .matchingList) (lefts ++ rights) rights)
+    sides-keyed q s b (numbers false (q .matching) (q .matchingList) lefts lefts)
+    (numbers false (q .matching) (q .matchingList) (lefts ++ rights) rights)
     (record { left = refl; right = refl }) drops keys keys′ (k .left) (k .right)

@@ -36,13 +36,24 @@ fn number_hashed(
         (labelsIn (lent (labels .entry) 1) (lent (at .entry) 1)) (now («left_keys» .exit)) (now («right_keys» .exit))
         ⌝ }
 {
-    key_numbers::number_left(labels[0], at[0], matching, names, left_hashes, left_keys);
-    key_numbers::number_right(
+    key_numbers::number_left(
         labels[0],
         at[0],
+        false,
+        matching,
+        names,
+        left_hashes,
+        left_keys,
+    );
+    let left = labels[0];
+    let left_at = at[0];
+    key_numbers::number_right(
+        left,
+        left_at,
         left_hashes,
         labels[1],
         at[1],
+        false,
         matching,
         names,
         right_hashes,

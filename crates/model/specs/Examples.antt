@@ -5,3 +5,5 @@ pub mod Records
 pub mod Edits
 pub mod Queries
 pub mod Vectors
+pub mod Aggregates
+pub mod Aggregations

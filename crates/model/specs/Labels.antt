@@ -55,6 +55,10 @@ sameTags [] (u ∷ us) = false
 sameTags (t ∷ ts) [] = false
 sameTags (t ∷ ts) (u ∷ us) = sameBytes (t .key) (u .key) && (sameBytes (t .value) (u .value) && sameTags ts us)
 
+-- name and tags
+unfoldable pub sameLabels : Labels → Labels → Bool
+sameLabels l m = sameBytes (l .name) (m .name) && sameTags (l .tags) (m .tags)
+
 abbrev pub Bytes : List ℕ → Type 0
 Bytes s = All (λ b. b < 256) s
 

@@ -10,3 +10,4 @@ pub mod Row
 pub mod Zipping
 pub mod Vector
 pub mod Faults
+pub mod Aggregation

@@ -7,6 +7,8 @@ pub mod Record
 pub mod Edits
 pub mod Query
 pub mod Vector
+pub mod Aggregate
+pub mod Aggregation
 pub mod Computing
 pub mod Examples
 pub mod Laws

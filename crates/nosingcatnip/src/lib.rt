@@ -1,4 +1,4 @@
-// The library for callers in C and Rust: one function on numbers and slices.
+// The library for callers in C and Rust: functions on numbers and slices.
 use answers::Outcome;
 use answers::Told;
 use side_parts::Shape;
@@ -7,6 +7,7 @@ ghost use mathlib.Core.List.{[], _∷_};
 ghost use lib.ListN.{length};
 ghost use lib.Seq.{sets};
 ghost use Rattle.semantics.specs.Call.{call};
+ghost use Rattle.semantics.specs.Aggregates.{aggregateCall};
 ghost use Rattle.answers.specs.Outcomes.{told};
 ghost use Rattle.nosingcatnip.specs.Reports.{numbersOf, Reported};
 
@@ -89,5 +90,27 @@ pub extern "C" fn nosingcatnip_exec_binop<'a>(
         out_labels,
         out,
     );
+    report(outcome, result);
+}
+
+// Runs a request for an aggregate over a vector; all eight numbers of the result are written.
+#[no_mangle]
+pub extern "C" fn nosingcatnip_exec_aggregate(
+    request: &[u8],
+    labels: &[u8],
+    readings: &[u64],
+    out_labels: &mut [u8],
+    out: &mut [u64],
+    result: &mut [u64; 8],
+)
+    ensures { λ _. ⌜
+        Reported
+        (aggregateCall (now (request .entry)) (now (labels .entry)) (now (readings .entry))
+        (length (now («out_labels» .entry))) (length (now (out .entry))))
+        (now («out_labels» .entry)) (now (out .entry)) (now («out_labels» .exit)) (now (out .exit)) (now (result .entry))
+        (now (result .exit))
+        ⌝ }
+{
+    let outcome = aggregate_vector::exec_aggregate(request, labels, readings, out_labels, out);
     report(outcome, result);
 }

@@ -8,3 +8,4 @@ pub mod Pairs
 pub mod Sets
 pub mod Joins
 pub mod Numbers
+pub mod Aggregates

@@ -4,4 +4,5 @@ pub mod Conclude
 pub mod Pairs
 pub mod Joins
 pub mod Sets
+pub mod Aggregates
 pub mod Laws

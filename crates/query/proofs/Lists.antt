@@ -118,14 +118,16 @@ taken-front t ns rest n e h =
       count = list-count t ns rest e;
     }
 
-list-taken : (t : List ℕ) (r : ListEnd) (n : ℕ) → endTold r ≡ endOf (length t) (listIn t) → r ≡ Until n → ListTaken t n
+pub list-taken : (t : List ℕ) (r : ListEnd) (n : ℕ) → endTold r ≡ endOf (length t) (listIn t) → r ≡ Until n
+    → ListTaken t n
 list-taken t r n e u = go (listIn t) refl (ap endTold (sym u) ∙ e)
   where
     go : (l : Listed) → listIn t ≡ l → endTold (Until n) ≡ endOf (length t) l → ListTaken t n
     go notListed h e = absurd (let z : _≡_ {A = ℕ} 0 1 = cc in omega arith)
     go (listed ns rest) h e = taken-front t ns rest n h (cc)
 
-list-refused : (t : List ℕ) (r : ListEnd) → endTold r ≡ endOf (length t) (listIn t) → r ≡ Bad → listIn t ≡ notListed
+pub list-refused : (t : List ℕ) (r : ListEnd) → endTold r ≡ endOf (length t) (listIn t) → r ≡ Bad
+    → listIn t ≡ notListed
 list-refused t r e u = go (listIn t) (ap endTold (sym u) ∙ e)
   where
     go : (l : Listed) → endTold Bad ≡ endOf (length t) l → l ≡ notListed
@@ -136,7 +138,7 @@ list-refused t r e u = go (listIn t) (ap endTold (sym u) ∙ e)
 abbrev pub partFrom : ℕ → List ℕ → List ℕ
 partFrom k s = take (length s - k) (drop k s)
 
-part-is : (k : ℕ) (s : List ℕ) → partFrom k s ≡ drop k s
+pub part-is : (k : ℕ) (s : List ℕ) → partFrom k s ≡ drop k s
 part-is k s = take-all (length s - k) (drop k s) (omega (arith, length-drop k s))
 
 module _ (k : ℕ) (s : List ℕ) (r : ListEnd) (e : endTold r ≡ endOf (length (partFrom k s)) (listIn (partFrom k s))) where

@@ -1,8 +1,14 @@
-// Queries, taken from bytes.
+// Queries, taken from bytes; and requests for an aggregate.
+mod aggregations; // a request for an aggregate
 mod list_ends; // where a label list ends
 mod operator_table; // the constant table that a query's operator byte indexes
 
 use crate::list_ends::ListEnd;
+pub use aggregations::Aggregate;
+pub use aggregations::Aggregation;
+pub use aggregations::AggregationRequest;
+pub use aggregations::Grouping;
+pub use aggregations::take_aggregation;
 use labels::Matching;
 use operator::Coded;
 use operator::Operator;

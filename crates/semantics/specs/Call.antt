@@ -6,7 +6,7 @@ use lib.Dec.{ltb, eqb}
 use lib.ListN.{length}
 use Rattle.operator.specs.Kinds.{kindOf}
 use Rattle.model.specs.Limits.{maxSeries, maxTags, maxLabelBytes}
-use Rattle.model.specs.Query.{Query, Side, left, right, TakenQuery, query, badOperator, malformed, badAllowance, takeQuery}
+use Rattle.model.specs.Query.{Query, sameKey, Side, left, right, TakenQuery, query, badOperator, malformed, badAllowance, takeQuery}
 use Rattle.model.specs.Vector.{Series, Shape, Vector, TakenVector, vector, faulty, takeVector, labelBytes, readingsOf}
 use Rattle.semantics.specs.Places.{Rank, placed}
 use Rattle.semantics.specs.Events.{Ranked, Duplicate, Verdict, answer, duplicate, run}
@@ -19,7 +19,7 @@ pub data Outcome : Type 0 where
 
 -- the ranked answer series of a query over two sides, or its first duplicate
 unfoldable pub verdict : Query → List Series → List Series → Verdict
-verdict q ls rs = run q (ruleOf q (kindOf (q .operator)) (look (kindOf (q .operator)) ls rs)) (placed ls rs)
+verdict q ls rs = run (sameKey q) (ruleOf q (kindOf (q .operator)) (look (kindOf (q .operator)) ls rs)) (placed ls rs)
 
 abbrev pub overTags : List Series → Bool
 overTags [] = false

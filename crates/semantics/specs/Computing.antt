@@ -4,7 +4,8 @@ use Rattle.model.specs.Computing as Model
 use Rattle.semantics.specs.Rules.{mergedInto, sameEdited, groups, hasReadings}
 use Rattle.semantics.specs.Binop.{adjustBinaryOpTags, paired, joinedLabels, joinWork, firstReading, someReading, met}
 use Rattle.semantics.specs.Call.{verdict, fit, running, call}
+use Rattle.semantics.specs.Aggregates.{groupRow, aggregateVerdict, aggregateCall}
 
 unfoldable pub computing : Unit {0}
-unfolding Model.computing mergedInto sameEdited groups hasReadings adjustBinaryOpTags paired joinedLabels joinWork firstReading someReading met verdict fit running call
+unfolding Model.computing mergedInto sameEdited groups hasReadings adjustBinaryOpTags paired joinedLabels joinWork firstReading someReading met verdict fit running call groupRow aggregateVerdict aggregateCall
 computing = tt

@@ -1,8 +1,8 @@
 -- What rules emit, in answer order, and what it comes to. Assumes nothing.
+use mathlib.Core.Bool.{Bool}
 use mathlib.Core.List.{List, [], _∷_, map}
 use Rattle.model.specs.Lists.{keep, gather}
 use Rattle.model.specs.Labels.{Labels}
-use Rattle.model.specs.Query.{Query, sameKey}
 use Rattle.model.specs.Vector.{Series}
 use Rattle.semantics.specs.Places.{Place, Placed, Rank}
 
@@ -29,19 +29,23 @@ mark r (e ∷ es) = record { rank = r; what = e } ∷ mark r es
 abbrev pub Rule : Type 0
 Rule = Placed → List Placed → List (Ranked Place Event)
 
+-- whether the labels of two series have one key: under a query's matching, or under an aggregation's grouping
+abbrev pub KeyTest : Type 0
+KeyTest = Labels → Labels → Bool
+
 -- the series of the key of these labels, both sides, in order
-abbrev pub ofKey : Query → Labels → List Placed → List Placed
-ofKey q l xs = keep (λ x. sameKey q l (x .series .labels)) xs
+abbrev pub ofKey : KeyTest → Labels → List Placed → List Placed
+ofKey same l xs = keep (λ x. same l (x .series .labels)) xs
 
 abbrev pub producedBy : Place → List (Ranked Place Event) → List (Ranked Rank Event)
 producedBy p l = map (λ e. record { rank = record { producer = p; earliest = e .rank }; what = e .what }) l
 
 -- what a series emits among xs, ranked
-abbrev pub emission : Query → Rule → List Placed → Placed → List (Ranked Rank Event)
-emission q f xs s = producedBy (s .place) (f s (ofKey q (s .series .labels) xs))
+abbrev pub emission : KeyTest → Rule → List Placed → Placed → List (Ranked Rank Event)
+emission same f xs s = producedBy (s .place) (f s (ofKey same (s .series .labels) xs))
 
-abbrev pub events : Query → Rule → List Placed → List (Ranked Rank Event)
-events q f xs = gather (emission q f xs) xs
+abbrev pub events : KeyTest → Rule → List Placed → List (Ranked Rank Event)
+events same f xs = gather (emission same f xs) xs
 
 -- the answer series in order, or the first duplicate
 pub data Verdict : Type 0 where
@@ -59,5 +63,5 @@ abbrev pub settle : List (Ranked Rank Event) → Verdict
 settle [] = answer []
 settle (e ∷ l) = front (e .rank) (e .what) (settle l)
 
-abbrev pub run : Query → Rule → List Placed → Verdict
-run q f xs = settle (events q f xs)
+abbrev pub run : KeyTest → Rule → List Placed → Verdict
+run same f xs = settle (events same f xs)

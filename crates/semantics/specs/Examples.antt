@@ -4,3 +4,4 @@ pub mod OneToOne
 pub mod Joins
 pub mod Allowances
 pub mod SetRules
+pub mod Aggregates

@@ -3,6 +3,7 @@ pub mod Events
 pub mod Rules
 pub mod Binop
 pub mod Call
+pub mod Aggregates
 pub mod Computing
 pub mod Examples
 pub mod Laws

@@ -1,6 +1,7 @@
-// Numbers the keys of the two sides of each case on standard input, and writes a line for each: the left side's numbers, a bar, and the
-// right side's. A case is a byte for the matching (0 all, 1 on, 2 ignoring) and three parts: the matching's list, the left label part and
-// the right one, of no points. A part is two bytes of length, the low byte first, and that many bytes.
+// Numbers the keys of the two sides of each case on standard input, and writes a line for each: the left side's
+// numbers, a bar, and the right side's. A case is a byte for the matching (0 all, 1 on, 2 ignoring; 3 to 5 with the
+// name in the key) and three parts: the matching's list, the left label part and the right one, of no points. A part is
+// two bytes of length, the low byte first, and that many bytes.
 use case_parts::part_at;
 use case_text::print;
 use case_text::print_number;
@@ -14,6 +15,12 @@ ghost use lib.ListN.{length};
 ghost use Rattle.side_parts.specs.Sides.{Positions};
 ghost use Rattle.test_keys.specs.Sides.{Side, SideAt};
 
+// What a key has in it.
+struct Choice {
+    named: bool,
+    matching: Matching,
+}
+
 fn print_numbers(keys: &[usize]) {
     let mut i: usize = 0;
     while i < keys.len() {
@@ -23,7 +30,7 @@ fn print_numbers(keys: &[usize]) {
 }
 
 fn number<'a, 'b>(
-    matching: Matching,
+    choice: Choice,
     list: &[u8],
     left: &'a [u8],
     left_at: &'b [usize],
@@ -41,13 +48,16 @@ fn number<'a, 'b>(
     requires { ⌜ length (now «right_at») ≡ length (now «right_keys») + 1 ⌝ }
     requires { ⌜ length (now «right_hashes») ≡ length (now «right_keys») ⌝ }
 {
-    key_numbers::number_left(left, left_at, matching, list, left_hashes, left_keys);
+    let named = choice.named;
+    let matching = choice.matching;
+    key_numbers::number_left(left, left_at, named, matching, list, left_hashes, left_keys);
     key_numbers::number_right(
         left,
         left_at,
         left_hashes,
         right,
         right_at,
+        named,
         matching,
         list,
         right_hashes,
@@ -60,7 +70,7 @@ fn number<'a, 'b>(
 }
 
 fn number_sides<'a, 'b>(
-    matching: Matching,
+    choice: Choice,
     list: &[u8],
     left: &'a [u8],
     left_at: &'b [usize],
@@ -77,7 +87,7 @@ fn number_sides<'a, 'b>(
     let mut right_hashes = [0u64; 512];
     let mut right_keys = [0usize; 512];
     number(
-        matching,
+        choice,
         list,
         left,
         left_at,
@@ -119,7 +129,7 @@ fn take(labels: &[u8], at: &mut [usize; 513]) -> usize
     }
 }
 
-fn take_sides<'a>(matching: Matching, list: &[u8], left: &'a [u8], right: &'a [u8]) {
+fn take_sides<'a>(choice: Choice, list: &[u8], left: &'a [u8], right: &'a [u8]) {
     let mut left_at = [0usize; 513];
     let n = take(left, &mut left_at);
     if n == 0 {
@@ -131,7 +141,7 @@ fn take_sides<'a>(matching: Matching, list: &[u8], left: &'a [u8], right: &'a [u
         return;
     }
     number_sides(
-        matching,
+        choice,
         list,
         &left[Operator::SIZES_LENGTH..],
         &left_at[..n],
@@ -140,12 +150,20 @@ fn take_sides<'a>(matching: Matching, list: &[u8], left: &'a [u8], right: &'a [u
     );
 }
 
-fn answer<'a>(matching: u8, list: &[u8], left: &'a [u8], right: &'a [u8]) {
-    match matching {
-        0 => take_sides(Matching::All, list, left, right),
-        1 => take_sides(Matching::On, list, left, right),
-        _ => take_sides(Matching::Ignoring, list, left, right),
+fn matching_of(n: u8) -> Matching {
+    match n {
+        0 => Matching::All,
+        1 => Matching::On,
+        _ => Matching::Ignoring,
     }
+}
+
+fn answer<'a>(choice: u8, list: &[u8], left: &'a [u8], right: &'a [u8]) {
+    let choice = Choice {
+        named: 3 <= choice,
+        matching: matching_of(choice % 3),
+    };
+    take_sides(choice, list, left, right)
 }
 
 fn run(s: &[u8]) {

@@ -3,3 +3,4 @@ pub mod Valid
 pub mod Dealing
 pub mod Partition
 pub mod Prometheus
+pub mod Aggregates

@@ -10,7 +10,7 @@ use Rattle.operator.specs.Operators.{joinsSets, runs}
 use Rattle.model.specs.Lists.{keep}
 use Rattle.model.specs.Reading.{noReading, scalarOp}
 use Rattle.model.specs.Row.{zipWith}
-use Rattle.model.specs.Query.{Query, Side, left, right, group}
+use Rattle.model.specs.Query.{Query, sameKey, Side, left, right, group}
 use Rattle.model.specs.Vector.{Series, Shape}
 use Rattle.model.specs.Laws.Booleans.{never-so}
 use Rattle.model.specs.Laws.Lists.{keep-swap}
@@ -37,7 +37,7 @@ gives q many s ms = producedBy (s .place) (groups (q .allowance) (joinWork q man
 
 record Emits (q : Query) (many : Side) (k : Kind) (c : Seen) (xs : List Placed) (s : Placed) : Type 0 where
   member : In s xs
-  is : emission q (ruleOf q k c) xs s ≡ gives q many s (matchesOf q many s (afterDrop k xs))
+  is : emission (sameKey q) (ruleOf q k c) xs s ≡ gives q many s (matchesOf q many s (afterDrop k xs))
 
 module _ (q : Query) (many : Side) (grouped : q .join ≡ group many) where
   rule-of-many : (s : Placed) (ys : List Placed) → s .place .side ≡ many
@@ -51,39 +51,50 @@ module _ (q : Query) (many : Side) (grouped : q .join ≡ group many) where
       record {
         member = m .member;
         is = ap (producedBy (s .place))
-            (ap (λ t. cond t (matchedRule q (q .join) s (keep (λ x. hasReadings (x .series)) (ofKey q (s .series .labels) xs))) []) (m .passes)
-            ∙ rule-of-many s (keep (λ x. hasReadings (x .series)) (ofKey q (s .series .labels) xs)) e
+            (ap (λ t. cond t (matchedRule q (q .join) s
+            (keep (λ x. hasReadings (x .series)) (ofKey (sameKey q) (s .series .labels) xs))) []) (m .passes)
+            ∙ rule-of-many s (keep (λ x. hasReadings (x .series)) (ofKey (sameKey q) (s .series .labels) xs)) e
             ∙ ap (λ ys. groups (q .allowance) (joinWork q many (s .series)) (pairs (joinedPair q) (s .series) (ofSide (other many) ys)))
             (keep-swap _ _ xs));
       }
-  emits (comparison t) j r c xs s e h = record { member = h; is = ap (producedBy (s .place)) (rule-of-many s (ofKey q (s .series .labels) xs) e) }
+  emits (comparison t) j r c xs s e h = record {
+    member = h;
+    is = ap (producedBy (s .place))
+        (rule-of-many s (ofKey (sameKey q) (s .series .labels) xs) e);
+  }
   emits (setRule k) j r c xs s e h = absurd (false≢true (sym j))
   emits (fallback k) j r c xs s e h = absurd (false≢true (sym j))
   emits notCarried j r c xs s e h = absurd (false≢true r)
 
   -- it turns on the one side alone
   emits-same : (k : Kind) → joinsSets k ≡ false → runs k ≡ true → (c c′ : Seen) (xs xs′ : List Placed) → ofSide (other many) xs ≡ ofSide (other many) xs′
-      → (s : Placed) → s .place .side ≡ many → emission q (ruleOf q k c) xs s ≡ emission q (ruleOf q k c′) xs′ s
+      → (s : Placed) → s .place .side ≡ many → emission (sameKey q) (ruleOf q k c) xs s
+      ≡ emission (sameKey q) (ruleOf q k c′) xs′ s
   emits-same (arithmetic a) j r c c′ xs xs′ o s e = ap (λ l. producedBy (s .place) (cond (hasReadings (s .series)) l [])) (one xs ∙ ap rows o ∙ sym (one xs′))
     where
       rows : List Placed → List (Ranked Place Event)
       rows ys = groups (q .allowance) (joinWork q many (s .series))
-          (pairs (joinedPair q) (s .series) (keep (λ x. hasReadings (x .series)) (ofKey q (s .series .labels) ys)))
+          (pairs (joinedPair q) (s .series) (keep (λ x. hasReadings (x .series))
+          (ofKey (sameKey q) (s .series .labels) ys)))
 
-      one : (ys : List Placed) → matchedRule q (q .join) s (keep (λ x. hasReadings (x .series)) (ofKey q (s .series .labels) ys))
+      one : (ys : List Placed) → matchedRule q (q .join) s
+          (keep (λ x. hasReadings (x .series)) (ofKey (sameKey q) (s .series .labels) ys))
           ≡ rows (ofSide (other many) ys)
       one ys =
-          rule-of-many s (keep (λ x. hasReadings (x .series)) (ofKey q (s .series .labels) ys)) e
+          rule-of-many s (keep (λ x. hasReadings (x .series)) (ofKey (sameKey q) (s .series .labels) ys)) e
           ∙ ap (λ l. groups (q .allowance) (joinWork q many (s .series)) (pairs (joinedPair q) (s .series) l))
-          (keep-swap _ _ (ofKey q (s .series .labels) ys) ∙ ap (keep (λ x. hasReadings (x .series))) (keep-swap _ _ ys))
+          (keep-swap _ _ (ofKey (sameKey q) (s .series .labels) ys)
+          ∙ ap (keep (λ x. hasReadings (x .series))) (keep-swap _ _ ys))
   emits-same (comparison t) j r c c′ xs xs′ o s e = ap (producedBy (s .place)) (one xs ∙ ap rows o ∙ sym (one xs′))
     where
       rows : List Placed → List (Ranked Place Event)
-      rows ys = groups (q .allowance) (joinWork q many (s .series)) (pairs (joinedPair q) (s .series) (ofKey q (s .series .labels) ys))
+      rows ys = groups (q .allowance) (joinWork q many (s .series))
+          (pairs (joinedPair q) (s .series) (ofKey (sameKey q) (s .series .labels) ys))
 
-      one : (ys : List Placed) → matchedRule q (q .join) s (ofKey q (s .series .labels) ys) ≡ rows (ofSide (other many) ys)
+      one : (ys : List Placed) → matchedRule q (q .join) s (ofKey (sameKey q) (s .series .labels) ys)
+          ≡ rows (ofSide (other many) ys)
       one ys =
-          rule-of-many s (ofKey q (s .series .labels) ys) e
+          rule-of-many s (ofKey (sameKey q) (s .series .labels) ys) e
           ∙ ap (λ l. groups (q .allowance) (joinWork q many (s .series)) (pairs (joinedPair q) (s .series) l)) (keep-swap _ _ ys)
   emits-same (setRule k) j r c c′ xs xs′ o s e = absurd (false≢true (sym j))
   emits-same (fallback k) j r c c′ xs xs′ o s e = absurd (false≢true (sym j))
@@ -128,12 +139,13 @@ module _ (q : Query) (many : Side) (j : IsJoin q many) (ls rs : List Series) (l 
   emission-is = emits q many (j .grouped) k (j .scalar) (j .carried) (look k ls rs) xs s (m .side) (m .stands)
 
   in-events : (x : Ranked Place Event) → In x (groups (q .allowance) (joinWork q many (s .series)) (pairs (joinedPair q) (s .series) ms))
-      → In (record { rank = record { producer = s .place; earliest = x .rank }; what = x .what }) (events q rule xs)
+      → In (record { rank = record { producer = s .place; earliest = x .rank }; what = x .what })
+      (events (sameKey q) rule xs)
   in-events x h =
-      in-gather (emission q rule xs) xs (emission-is .member)
+      in-gather (emission (sameKey q) rule xs) xs (emission-is .member)
       (rw (emission-is .is) (in-map (λ (y : Ranked Place Event). record { rank = record { producer = s .place; earliest = y .rank }; what = y .what }) h))
 
-  settled-events : settle (events q rule xs) ≡ answer l
+  settled-events : settle (events (sameKey q) rule xs) ≡ answer l
   unfolding verdict
   settled-events = e
 
@@ -143,7 +155,7 @@ module _ (q : Query) (many : Side) (j : IsJoin q many) (ls rs : List Series) (l 
       let g = group-event (q .allowance) (joinWork q many (s .series)) (pairs (joinedPair q) (s .series) ms) (pair o) (in-map pair h) in
       let f = from-map pair (g .earliest) ms (g .member) in
       let v = answer-given (joinWork q many (s .series)) (g .earliest .series) (record { producer = s .place; earliest = g .earliest .place })
-      (g .event) (events q rule xs) l (g .sort)
+      (g .event) (events (sameKey q) rule xs) l (g .sort)
       (in-events (record { rank = g .earliest .place; what = g .event }) (g .emitted)) settled-events in
       record {
         earliest = f .source;
@@ -183,7 +195,7 @@ single-match-served q many j ls rs l e s m o h =
     let i = in-events q many j ls rs l e s m (record { rank = o .place; what = good (joinWork q many (s .series) (c .series)) })
     (rw (ap (λ (ms : List Placed). groups (q .allowance) (joinWork q many (s .series)) (pairs (joinedPair q) (s .series) ms)) h
     ∙ grouped-one (q .allowance) (joinWork q many (s .series)) c) (List·Memᴰ·head refl)) in
-    let es = events q (rule q many j ls rs l e s m) (placed ls rs) in
+    let es = events (sameKey q) (rule q many j ls rs l e s m) (placed ls rs) in
     let a = answered es l (settled-events q many j ls rs l e s m) in
     record {
       given = joinWork q many (s .series) (c .series);
@@ -195,9 +207,10 @@ single-match-served q many j ls rs l e s m o h =
 pub many-side-apart : ManySideApart
 unfolding verdict
 many-side-apart q many j ls rs ls′ rs′ o l l′ e e′ s side h h′ =
-    given-is q (ruleOf q (kindOf (q .operator)) (look (kindOf (q .operator)) ls rs)) ls rs l e s h
+    given-is (sameKey q) (ruleOf q (kindOf (q .operator)) (look (kindOf (q .operator)) ls rs)) ls rs l e s h
     ∙ ap goods (emits-same q many (j .grouped) (kindOf (q .operator)) (j .scalar) (j .carried) _ _ (placed ls rs) (placed ls′ rs′) o s side)
-    ∙ sym (given-is q (ruleOf q (kindOf (q .operator)) (look (kindOf (q .operator)) ls′ rs′)) ls′ rs′ l′ e′ s h′)
+    ∙ sym (given-is (sameKey q) (ruleOf q (kindOf (q .operator))
+    (look (kindOf (q .operator)) ls′ rs′)) ls′ rs′ l′ e′ s h′)
 
 -- calls and verdicts
 

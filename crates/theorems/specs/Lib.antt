@@ -4,6 +4,7 @@ pub mod Outcomes
 pub mod Dealing
 pub mod Partition
 pub mod Valid
+pub mod Aggregates
 pub mod Prometheus
 pub mod Joins
 pub mod Settled

@@ -84,7 +84,7 @@ module _ (a b : ℕ) (shape : Shape) (ρ₁ ρ₂ : Renumber) where
   one-refused true = refl
   one-refused false = refl
 
-  splits : (v w : Verdict)
+  pub splits : (v w : Verdict)
       → ((k : List (Ranked Rank Series)) → mergedVerdict (movedVerdict ρ₁ v) (movedVerdict ρ₂ w) ≡ answer k → Rising rankBefore k)
       → refusedOtherwise (concluded a b shape (mergedVerdict (movedVerdict ρ₁ v) (movedVerdict ρ₂ w))) ≡ false
       → Claim v w (concluded a b shape (mergedVerdict (movedVerdict ρ₁ v) (movedVerdict ρ₂ w)))
@@ -122,7 +122,7 @@ pick-shorter d (b ∷ bs) =
     let h = pick-shorter (λ i. d (suc i)) bs in
     cases (d zero) (λ e. rw e (omega (arith, h))) (λ e. rw e (omega (arith, h)))
 
-bytes-cons : (b : Series) (bs : List Series) → length (labelBytes (b ∷ bs)) ≡ length (encode (b .labels)) + length (labelBytes bs)
+pub bytes-cons : (b : Series) (bs : List Series) → length (labelBytes (b ∷ bs)) ≡ length (encode (b .labels)) + length (labelBytes bs)
 unfolding labelBytes
 bytes-cons b bs = length-append (encode (b .labels)) (labelBytes bs)
 
@@ -138,7 +138,7 @@ All-pick : (P : Series → Type 0) (d : ℕ → Bool) (bs : List Series) → All
 All-pick P d [] a = tt
 All-pick P d (b ∷ bs) a = cases (d zero) (λ e. rw e (a .0, All-pick P (λ i. d (suc i)) bs (a .1))) (λ e. rw e (All-pick P (λ i. d (suc i)) bs (a .1)))
 
-pick-valid : (shape : Shape) (d : ℕ → Bool) (bs : List Series) → Valid (record { shape = shape; series = bs })
+pub pick-valid : (shape : Shape) (d : ℕ → Bool) (bs : List Series) → Valid (record { shape = shape; series = bs })
     → Valid (record { shape = shape; series = pick d bs })
 pick-valid shape d bs v =
     record {

@@ -195,21 +195,22 @@ module _ (q : Query) (k : SetRule) (quiet : adds k ≡ false) (ls rs : List Seri
   xs = placed ls rs
 
   abbrev keyed : Series → List Placed
-  keyed b = ofSide right (ofKey q (b .labels) xs)
+  keyed b = ofSide right (ofKey (sameKey q) (b .labels) xs)
 
   abbrev result : Placed → Option Series
   result x = onLeft (x .place .side) (resultOf k (x .series) (keyed (x .series)))
 
-  rule-result : (x : Placed) → emission q (ruleOf q (setRule k) (look (setRule k) ls rs)) xs x ≡ optionally result x
+  rule-result : (x : Placed) → emission (sameKey q) (ruleOf q (setRule k) (look (setRule k) ls rs)) xs x
+      ≡ optionally result x
   rule-result x = ap (λ l. producedBy (x .place) (mark (x .place) l)) (go (x .place .side))
     where
       go : (s : Side) → cond (onSide left s) (leftResult (unmatched k none) (met k) (x .series) (keyed (x .series)))
-          (cond (adds k && true) (rightResult (x .series) (ofSide left (ofKey q (x .series .labels) xs))) [])
+          (cond (adds k && true) (rightResult (x .series) (ofSide left (ofKey (sameKey q) (x .series .labels) xs))) [])
           ≡ optional (onLeft s (resultOf k (x .series) (keyed (x .series))))
       go left = left-result k (x .series) (keyed (x .series))
       go right = rw quiet
 
-  rule-settled : run q (ruleOf q (setRule k) (look (setRule k) ls rs)) xs ≡ answer (answersOf result xs)
+  rule-settled : run (sameKey q) (ruleOf q (setRule k) (look (setRule k) ls rs)) xs ≡ answer (answersOf result xs)
   rule-settled = ap settle (gather-each rule-result xs) ∙ settle-optional result xs
 
   lefts : (g : ℕ → ℕ) (bs : List Series) → gather (λ x. listed (result x)) (numbered left g bs) ≡ gather (λ b. listed (resultOf k b (keyed b))) bs
@@ -247,7 +248,7 @@ module _ (q : Query) (k : SetRule) (quiet : adds k ≡ false) (ls rs : List Seri
 
   set-verdict : kindOf (q .operator) ≡ setRule k → verdict q ls rs ≡ answer (answersOf result xs)
   unfolding verdict
-  set-verdict e = ap (λ o. run q (ruleOf q o (look o ls rs)) (placed ls rs)) e ∙ rule-settled
+  set-verdict e = ap (λ o. run (sameKey q) (ruleOf q o (look o ls rs)) (placed ls rs)) e ∙ rule-settled
 
   set-call : (s ll lr rl rr : List ℕ) (shape : Shape) → Taken s ll lr rl rr q shape ls rs → kindOf (q .operator) ≡ setRule k → (a b : ℕ)
       → call s ll lr rl rr a b ≡ fit a b shape (seriesIn (answersOf result xs))

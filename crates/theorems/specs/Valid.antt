@@ -20,7 +20,7 @@ use Rattle.model.specs.Reading.{missing, noReading, calculated, holds, oneOrZer
 use Rattle.model.specs.Row.{onlyMissing, zipWith, merged, overwritten, overlaps}
 use Rattle.model.specs.Labels.{Labels, WellFormed}
 use Rattle.model.specs.Edits.{Names}
-use Rattle.model.specs.Query.{Query, shouldResetMetricGroup, Matching, all, on, ignoring, Join, oneToOne, group, Side, left, right}
+use Rattle.model.specs.Query.{Query, sameKey, shouldResetMetricGroup, Matching, all, on, ignoring, Join, oneToOne, group, Side, left, right}
 use Rattle.model.specs.Vector.{Series, Shape, Vector, vector, takeVector, sizesOf, labelPart, labelBytes, readingsOf}
 use Rattle.model.specs.Vector.{Readings, GoodSeries, GoodGrid, Valid}
 use Rattle.model.specs.Laws.Booleans.{neither-of}
@@ -45,7 +45,7 @@ use Rattle.theorems.specs.Partition.{has-sides, left-valid, right-valid}
 
 -- readings stay below 2^64
 
-abbrev Word : ℕ → Type 0
+abbrev pub Word : ℕ → Type 0
 Word x = x < 18446744073709551616
 
 written-word : (v : Float) → T (fits binary64 v) → Word (toBits binary64 v)
@@ -88,9 +88,9 @@ scalar-word o bool a b h = kind-word (kindOf o) bool a b h
 
 -- rows
 
-record GoodRow (p : ℕ) (r : List ℕ) : Type 0 where
-  width : length r ≡ p
-  words : Readings r
+pub record GoodRow (p : ℕ) (r : List ℕ) : Type 0 where
+  pub width : length r ≡ p
+  pub words : Readings r
 
 overwritten-words : (d s : List ℕ) → Readings d → Readings s → Readings (overwritten d s)
 unfolding overwritten
@@ -108,11 +108,11 @@ zip-good : (p : ℕ) (o : Operator) (bool : Bool) (x y : List ℕ) → GoodRow p
 zip-good p o bool x y h k =
     record { width = zip-wide (scalarOp o bool) p x y (h .width) (k .width); words = zip-words (scalarOp o bool) (scalar-word o bool) x y (h .words) }
 
-pointwise-length : (f : ℕ → ℕ → ℕ) (i : ℕ) (x : List ℕ) → length (pointwise f i x) ≡ length x
+pub pointwise-length : (f : ℕ → ℕ → ℕ) (i : ℕ) (x : List ℕ) → length (pointwise f i x) ≡ length x
 pointwise-length f i [] = refl
 pointwise-length f i (a ∷ x) = ap suc (pointwise-length f (suc i) x)
 
-pointwise-words : (f : ℕ → ℕ → ℕ) → ((i x : ℕ) → Word x → Word (f i x)) → (i : ℕ) (x : List ℕ) → Readings x → Readings (pointwise f i x)
+pub pointwise-words : (f : ℕ → ℕ → ℕ) → ((i x : ℕ) → Word x → Word (f i x)) → (i : ℕ) (x : List ℕ) → Readings x → Readings (pointwise f i x)
 pointwise-words f w i [] h = tt
 pointwise-words f w i (a ∷ x) h = (w i a (h .0), pointwise-words f w (suc i) x (h .1))
 
@@ -123,9 +123,9 @@ word-at (x ∷ r) (suc i) h = word-at r i (h .1)
 
 -- series: well-formed labels and a row of p readings
 
-record Proper (p : ℕ) (b : Series) : Type 0 where
-  labels : WellFormed (b .labels)
-  row : GoodRow p (b .row)
+pub record Proper (p : ℕ) (b : Series) : Type 0 where
+  pub labels : WellFormed (b .labels)
+  pub row : GoodRow p (b .row)
 
 module _ (p : ℕ) where
   merge-sure : (n : ℕ) (b c : Series) → Proper p b → Proper p c → Sure (Proper p) (mergedInto n b c)
@@ -259,17 +259,18 @@ module _ (p : ℕ) where
   look-sure (fallback k) ls rs h = scalar-sure rs h
   look-sure notCarried ls rs h = tt
 
-  numbered-each : (s : Side) (g : ℕ → ℕ) (bs : List Series) → All (Proper p) bs → Each (Proper p) (numbered s g bs)
+  pub numbered-each : (s : Side) (g : ℕ → ℕ) (bs : List Series) → All (Proper p) bs → Each (Proper p) (numbered s g bs)
   numbered-each s g [] a = tt
   numbered-each s g (b ∷ bs) a = (a .0, numbered-each s (λ i. g (suc i)) bs (a .1))
 
   verdict-proper : (q : Query) (ls rs : List Series) → All (Proper p) ls → All (Proper p) rs → Holds (Proper p) (verdict q ls rs)
   unfolding verdict
   verdict-proper q ls rs a b =
-      run-holds (Proper p) q _ (rule-keeps q (kindOf (q .operator)) _ (look-sure (kindOf (q .operator)) ls rs b)) (placed ls rs)
+      run-holds (Proper p) (sameKey q) _ (rule-keeps q (kindOf (q .operator)) _
+      (look-sure (kindOf (q .operator)) ls rs b)) (placed ls rs)
       (All-append _ (numbered left (λ i. i) ls) (numbered right (λ i. i) rs) (numbered-each left (λ i. i) ls a) (numbered-each right (λ i. i) rs b))
 
-  proper-each : (bs : List Series) → All (GoodSeries p) bs → All (Proper p) bs
+  pub proper-each : (bs : List Series) → All (GoodSeries p) bs → All (Proper p) bs
   proper-each bs a = All-map (λ b h. record { labels = h .labels; row = record { width = h .width; words = h .readings } }) bs a
 
   good-each : (bs : List Series) → All (Proper p) bs → overTags bs ≡ false → All (GoodSeries p) bs
@@ -335,7 +336,7 @@ module _ (a b n : ℕ) (given : Shape) (x y : List ℕ) where
       (record { few = f .few; points = s; grid = r; bytes = f .bytes; series = good-each (shape .points) ss g (f .tags) })
       f (sym (fits-fit a b shape ss f) ∙ e)
 
-  concluded-valid : (shape : Shape) → shape .points ≤ maxPoints → GoodGrid shape → (v : Verdict) → Holds (Proper (shape .points)) v
+  pub concluded-valid : (shape : Shape) → shape .points ≤ maxPoints → GoodGrid shape → (v : Verdict) → Holds (Proper (shape .points)) v
       → concluded a b shape v ≡ answered n given x y → ValidAnswer a b n given x y
   concluded-valid shape s r (duplicate c) h e = not-refused _ _ _ n given x y e
   concluded-valid shape s r (answer l) h e = fitted shape (seriesIn l) s r (series-each _ l h) (fit-way a b shape (seriesIn l)) e

@@ -1,4 +1,5 @@
 //! Label records and their edits.
+use crate::aggregate::{Grouping, Request};
 use crate::query::{Join, Matching, Query};
 use crate::MAX_TAGS;
 
@@ -183,6 +184,20 @@ impl Labels {
         }
         let skip: &[Vec<u8>] = if query.matching == Matching::On { &query.matching_list } else { &[] };
         edited.set_tags(&query.join_list, skip, source);
+        edited
+    }
+
+    /// 02: "with `by` or `without` as `remove_group_tags` edits labels". `by` keeps the listed tags, and the name if `__name__`
+    /// is listed; `without` takes the listed tags out, and always the name. Nothing is said of `*`: it is a label like others.
+    pub fn edited_total(&self, request: &Request) -> Labels {
+        let mut edited = self.clone();
+        match request.grouping {
+            Grouping::By => edited.remove_tags_on(&request.list),
+            Grouping::Without => {
+                edited.remove_tags_ignoring(&request.list);
+                edited.name.clear();
+            }
+        }
         edited
     }
 }

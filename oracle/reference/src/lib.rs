@@ -2,6 +2,7 @@
 //! sentences alone, to hold other programs against. Each rule stands beside the sentence that it reads (in quotes; of 01 where no
 //! other is named). It is written to be read, not to be fast.
 
+mod aggregate;
 mod label;
 mod query;
 mod reading;
@@ -9,6 +10,7 @@ mod rules;
 mod vecop;
 mod vector;
 
+pub use aggregate::{aggregate, take_request, totals, Aggregate, AggregateCall, Grouping, Request};
 pub use label::{Labels, Tag, NAME};
 pub use query::{take_query, Join, Matching, Operator, Query};
 pub use reading::{combine, is_missing, merge, Merged, MISSING};
@@ -87,8 +89,8 @@ pub fn taken(c: &Call) -> Result<(Query, Vector, Vector), Refusal> {
 }
 
 /// "Running: 6, the sides' p differ, empty sides included; 7 left or 8 right duplicate, the first in answer order, left before
-/// right; ... Then 9, the answer has over 512 series, 32 tags or 65,535 label bytes; then 10, it is longer than a lent output
-/// part." 02: "12, the sides' grids differ, empty sides included, after number 6." "The answer carries the grid of its sides".
+/// right; ... Then 9 ...; then 10". 02: "12, the sides' grids differ, empty sides included, after number 6." "The answer carries
+/// the grid of its sides".
 pub fn answer(query: &Query, left: &Vector, right: &Vector, room: Room) -> Outcome {
     if left.points != right.points {
         return Err(Refusal::new(6, 0, 0));
@@ -107,6 +109,12 @@ pub fn answer(query: &Query, left: &Vector, right: &Vector, room: Room) -> Outco
             What::Series(s) => series.push(s),
         }
     }
+    written(&Vector { points: left.points, grid: left.grid, series }, room)
+}
+
+/// "Then 9, the answer has over 512 series, 32 tags or 65,535 label bytes; then 10, it is longer than a lent output part."
+fn written(answer: &Vector, room: Room) -> Outcome {
+    let Vector { points, grid, series } = answer;
     let labels: Vec<u8> = series.iter().flat_map(|s| s.labels.record()).collect();
     let readings: Vec<u64> = series.iter().flat_map(|s| s.row.iter().copied()).collect();
     if series.len() > MAX_SERIES || series.iter().any(|s| s.labels.tags.len() > MAX_TAGS) || labels.len() > MAX_LABEL_BYTES {
@@ -115,5 +123,5 @@ pub fn answer(query: &Query, left: &Vector, right: &Vector, room: Room) -> Outco
     if labels.len() > room.labels || readings.len() > room.readings {
         return Err(Refusal::new(10, 0, 0));
     }
-    Ok(Answer { series: series.len(), points: left.points, grid: left.grid, labels, readings })
+    Ok(Answer { series: series.len(), points: *points, grid: *grid, labels, readings })
 }

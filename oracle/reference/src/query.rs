@@ -145,7 +145,7 @@ fn well_formed(bytes: &[u8]) -> Option<Query> {
 }
 
 /// "A list is a count byte 0 to 32, then labels, each a length byte 1 to 255 and its bytes."
-fn take_list(rest: &mut &[u8]) -> Option<Vec<Vec<u8>>> {
+pub fn take_list(rest: &mut &[u8]) -> Option<Vec<Vec<u8>>> {
     let (&count, mut tail) = rest.split_first()?;
     if count > 32 {
         return None;
@@ -170,13 +170,18 @@ impl Query {
         let flags = u8::from(self.keep_names) + 2 * u8::from(self.bool_flag);
         let mut out = vec![self.op as u8, self.matching as u8, self.join as u8, flags];
         for list in [&self.matching_list, &self.join_list] {
-            out.push(list.len() as u8);
-            for label in list {
-                out.push(label.len() as u8);
-                out.extend_from_slice(label);
-            }
+            put_list(&mut out, list);
         }
         out.push(self.allowance as u8);
         out
+    }
+}
+
+/// Writes the bytes that `take_list` takes back.
+pub fn put_list(out: &mut Vec<u8>, list: &[Vec<u8>]) {
+    out.push(list.len() as u8);
+    for label in list {
+        out.push(label.len() as u8);
+        out.extend_from_slice(label);
     }
 }

@@ -15,7 +15,7 @@ const NAMES: [&[u8]; 3] = [b"", b"m", b"n"];
 /// Keys, and in how many of twelve series each stands.
 const KEYS: [(&[u8], usize); 5] = [(b"a", 8), (b"b", 8), (b"c", 8), (b"xb", 3), (b"*", 1)];
 const VALUES: [&[u8]; 5] = [b"", b"x", b"y", b"xb", "\u{e9}".as_bytes()];
-const LISTED: [&[u8]; 7] = [b"a", b"b", b"c", b"xb", b"z", b"*", NAME];
+pub const LISTED: [&[u8]; 7] = [b"a", b"b", b"c", b"xb", b"z", b"*", NAME];
 
 /// Values at which operators turn: zeros, ones, halves, the ends of the range, infinities, and missing ones of several patterns.
 pub const READINGS: [u64; 24] = [
@@ -185,7 +185,7 @@ fn random_list(r: &mut Random, extent: Extent) -> Vec<Vec<u8>> {
     (0..n).map(|_| r.pick(&LISTED).to_vec()).collect()
 }
 
-fn random_labels(r: &mut Random, utf8: bool) -> Labels {
+pub fn random_labels(r: &mut Random, utf8: bool) -> Labels {
     let name = if !utf8 && r.one_in(4) { vec![r.word() as u8, 0xff] } else { r.pick(&NAMES).to_vec() };
     let mut tags: Vec<Tag> = Vec::new();
     for (key, often) in KEYS {
@@ -215,21 +215,9 @@ fn random_vector(r: &mut Random, p: usize, pool: &[Labels], extent: Extent, utf8
     let odd = r.one_in(3);
     let mut series: Vec<Series> = (0..n)
         .map(|_| {
-            let mut labels = if r.one_in(6) { random_labels(r, utf8) } else { r.pick(pool) };
-            if r.one_in(3) {
-                labels.name = r.pick(&NAMES).to_vec();
-            }
-            if r.one_in(4) && !labels.tags.is_empty() {
-                let at = r.below(labels.tags.len());
-                if r.one_in(2) {
-                    labels.tags.remove(at);
-                } else {
-                    labels.tags[at].value = r.pick(&VALUES).to_vec();
-                }
-            }
+            let mut labels = labels_near(r, pool, utf8);
             if extent == Extent::Wide {
-                labels.tags.insert(0, Tag { key: b"!".to_vec(), value: r.below(numbers).to_string().into_bytes() });
-                labels.tags.sort();
+                put_number(&mut labels, r.below(numbers));
             }
             let row = (0..p).map(|_| random_reading(r, odd)).collect();
             Series { labels, row }
@@ -237,6 +225,29 @@ fn random_vector(r: &mut Random, p: usize, pool: &[Labels], extent: Extent, utf8
         .collect();
     gaps(r, &mut series, p);
     Vector::hourly(p, series)
+}
+
+/// Labels of the pool, mostly as they are, or with another name, a tag less or another value.
+pub fn labels_near(r: &mut Random, pool: &[Labels], utf8: bool) -> Labels {
+    let mut labels = if r.one_in(6) { random_labels(r, utf8) } else { r.pick(pool) };
+    if r.one_in(3) {
+        labels.name = r.pick(&NAMES).to_vec();
+    }
+    if r.one_in(4) && !labels.tags.is_empty() {
+        let at = r.below(labels.tags.len());
+        if r.one_in(2) {
+            labels.tags.remove(at);
+        } else {
+            labels.tags[at].value = r.pick(&VALUES).to_vec();
+        }
+    }
+    labels
+}
+
+/// A tag more, with a number.
+pub fn put_number(labels: &mut Labels, number: usize) {
+    labels.tags.insert(0, Tag { key: b"!".to_vec(), value: number.to_string().into_bytes() });
+    labels.tags.sort();
 }
 
 fn random_reading(r: &mut Random, odd: bool) -> u64 {
@@ -391,7 +402,7 @@ pub fn all_labels(first: usize, step: usize, visit: &mut dyn FnMut(Call)) {
     }
 }
 
-fn label_sides() -> Vec<Vector> {
+pub fn label_sides() -> Vec<Vector> {
     let all: [Labels; 7] = [
         labels(b"", &[]),
         labels(b"m", &[]),

@@ -55,7 +55,7 @@ fn restated(part: &[u8], k: usize) -> Vec<u8> {
 }
 
 /// Puts a grid in the place of a label part's.
-fn put_grid(part: &mut [u8], grid: Grid) {
+pub fn put_grid(part: &mut [u8], grid: Grid) {
     part[6..14].copy_from_slice(&grid.start.to_le_bytes());
     part[14..SIZES].copy_from_slice(&grid.step.to_le_bytes());
 }

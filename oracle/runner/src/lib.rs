@@ -1,7 +1,9 @@
 //! Cases, and the comparisons that the program `oracle` and the measurements in bench/ share.
+pub mod aggregates;
 pub mod cases;
 pub mod compare;
 pub mod damage;
+pub mod dealing;
 pub mod known;
 pub mod library;
 pub mod overlaps;

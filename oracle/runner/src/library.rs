@@ -2,6 +2,8 @@
 use std::io::{Read, Write};
 use std::process::{Command, Stdio};
 
+#[cfg(feature = "library")]
+use reference::AggregateCall;
 use reference::{vecop, Call};
 
 /// A program or a linked library that takes calls.
@@ -90,25 +92,18 @@ impl Linked {
             self.readings.push(word);
         }
     }
-}
 
-#[cfg(feature = "library")]
-impl Library for Linked {
-    fn name(&self) -> String {
-        "the linked library".to_string()
-    }
-
-    fn check(&mut self, call: &Call) -> Result<(), String> {
-        self.grow(call.room);
-        let given = nosingcatnip::exec_binop(
-            &call.query,
-            nosingcatnip::Side { labels: &call.left_labels, readings: &call.left },
-            nosingcatnip::Side { labels: &call.right_labels, readings: &call.right },
-            &mut self.labels[BORDER..BORDER + call.room.labels],
-            &mut self.readings[BORDER..BORDER + call.room.readings],
-        );
+    /// Lends the two output parts to a run, and compares what it gives and leaves behind with what is expected.
+    fn held(
+        &mut self,
+        room: reference::Room,
+        run: impl FnOnce(&mut [u8], &mut [u64]) -> Result<nosingcatnip::Answer, nosingcatnip::Refusal>,
+        expected: reference::Outcome,
+    ) -> Result<(), String> {
+        self.grow(room);
+        let given = run(&mut self.labels[BORDER..BORDER + room.labels], &mut self.readings[BORDER..BORDER + room.readings]);
         let given = given.map(|a| (a.series, a.points, a.start, a.step, a.label_bytes)).map_err(|r| (r.number, r.fields));
-        let (expected, labels, readings) = match reference::call(call) {
+        let (expected, labels, readings) = match expected {
             Err(r) => (Err((r.number, r.fields)), vec![], vec![]),
             Ok(a) => (Ok((a.series, a.points, a.grid.start, a.grid.step, a.labels.len())), a.labels, a.readings),
         };
@@ -124,6 +119,43 @@ impl Library for Linked {
             Some(at) => Err(format!("the reading at {at} of the lent part differs")),
             None => Ok(()),
         }
+    }
+
+    /// Runs the aggregate and compares all that it gives and leaves behind with the reference.
+    pub fn check_aggregate(&mut self, call: &AggregateCall) -> Result<(), String> {
+        let vector = nosingcatnip::Side { labels: &call.labels, readings: &call.readings };
+        let run = |labels: &mut [u8], readings: &mut [u64]| nosingcatnip::exec_aggregate(&call.request, vector, labels, readings);
+        self.held(call.room, run, reference::aggregate(call))
+    }
+}
+
+/// What the linked library alone gives for an aggregate.
+#[cfg(feature = "library")]
+pub fn linked_aggregate(call: &AggregateCall) -> reference::Outcome {
+    let (mut labels, mut readings) = (vec![0; call.room.labels], vec![0; call.room.readings]);
+    let vector = nosingcatnip::Side { labels: &call.labels, readings: &call.readings };
+    match nosingcatnip::exec_aggregate(&call.request, vector, &mut labels, &mut readings) {
+        Err(r) => Err(reference::Refusal { number: r.number, fields: r.fields }),
+        Ok(a) => {
+            labels.truncate(a.label_bytes);
+            readings.truncate(a.series * a.points);
+            let grid = reference::Grid { start: a.start, step: a.step };
+            Ok(reference::Answer { series: a.series, points: a.points, grid, labels, readings })
+        }
+    }
+}
+
+#[cfg(feature = "library")]
+impl Library for Linked {
+    fn name(&self) -> String {
+        "the linked library".to_string()
+    }
+
+    fn check(&mut self, call: &Call) -> Result<(), String> {
+        let left = nosingcatnip::Side { labels: &call.left_labels, readings: &call.left };
+        let right = nosingcatnip::Side { labels: &call.right_labels, readings: &call.right };
+        let run = |labels: &mut [u8], readings: &mut [u64]| nosingcatnip::exec_binop(&call.query, left, right, labels, readings);
+        self.held(call.room, run, reference::call(call))
     }
 }
 

@@ -1,52 +1,64 @@
-//! Runs the reference against the Rust's `exec_binop`, and a library against the reference. README.md says how.
+//! Runs the reference against the Rust's `exec_binop` and `remove_group_tags`, and a library against the reference. README.md
+//! says how.
 use std::process::ExitCode;
 
+use oracle::dealing::{dealt, Run};
 use oracle::library::{Library, Program};
 use oracle::random::Random;
 use oracle::tally::Tally;
-use oracle::{cases, damage, known, overlaps, sample};
-use reference::{Call, ALLOWANCE, MAX_ALLOWANCE};
+use oracle::{aggregates, cases, damage, known, overlaps, sample};
+#[cfg(feature = "library")]
+use reference::AggregateCall;
+use reference::{Aggregate, Call, Grouping, Room, ALLOWANCE, MAX_ALLOWANCE};
 
 struct Options {
     seed: u64,
-    /// Random cases an operator.
+    /// Random cases an operator, and an aggregate and grouping.
     cases: usize,
     vecop: Option<String>,
     sample: Option<String>,
     show: usize,
     differences: bool,
+    /// The aggregates alone.
+    aggregates: bool,
 }
 
-const USAGE: &str = "oracle [--seed N] [--cases N] [--vecop WORDS] [--show N]\n\
+const USAGE: &str = "oracle [--seed N] [--cases N] [--vecop WORDS | --aggregates] [--show N]\n\
     oracle --sample FOLDER\n\
     oracle --differences\n\
     --seed     of the random cases (1)\n\
-    --cases    random cases an operator (20000)\n\
+    --cases    random cases an operator, and an aggregate and grouping (20000)\n\
     --vecop    compares the vecop that these words run with the reference, and leaves the Rust aside\n\
+    --aggregates   runs what there is of aggregates, and nothing else\n\
     --show     how many differences are printed in full (5)\n\
     --sample   writes the fixed sample of the Rust's answers into this folder\n\
     --differences   prints the listed differences with their smallest inputs";
 
 fn options() -> Result<Options, String> {
-    let mut o = Options { seed: 1, cases: 20_000, vecop: None, sample: None, show: 5, differences: false };
+    let mut o = Options { seed: 1, cases: 20_000, vecop: None, sample: None, show: 5, differences: false, aggregates: false };
     let mut words = std::env::args().skip(1);
     while let Some(word) = words.next() {
-        if word == "--differences" {
-            o.differences = true;
-            continue;
-        }
-        let value = words.next().ok_or_else(|| USAGE.to_string())?;
-        let number = || value.parse::<u64>().map_err(|_| format!("{word} {value}: not a number"));
         match word.as_str() {
-            "--seed" => o.seed = number()?,
-            "--cases" => o.cases = number()? as usize,
-            "--show" => o.show = number()? as usize,
-            "--vecop" => o.vecop = Some(value),
-            "--sample" => o.sample = Some(value),
-            _ => return Err(USAGE.to_string()),
+            "--differences" => o.differences = true,
+            "--aggregates" => o.aggregates = true,
+            _ => valued(&mut o, &word, &words.next().ok_or_else(|| USAGE.to_string())?)?,
         }
     }
     Ok(o)
+}
+
+/// Takes an option that has a value.
+fn valued(o: &mut Options, word: &str, value: &str) -> Result<(), String> {
+    let number = || value.parse::<u64>().map_err(|_| format!("{word} {value}: not a number"));
+    match word {
+        "--seed" => o.seed = number()?,
+        "--cases" => o.cases = number()? as usize,
+        "--show" => o.show = number()? as usize,
+        "--vecop" => o.vecop = Some(value.to_string()),
+        "--sample" => o.sample = Some(value.to_string()),
+        _ => return Err(USAGE.to_string()),
+    }
+    Ok(())
 }
 
 fn main() -> ExitCode {
@@ -70,11 +82,20 @@ fn main() -> ExitCode {
     match &o.vecop {
         Some(words) => good &= program(&o, Program { words: words.clone() }),
         None => {
-            good &= known::shown();
-            good &= against_rust(&o);
+            if !o.aggregates {
+                good &= known::shown();
+                good &= against_rust(&o);
+                #[cfg(feature = "library")]
+                {
+                    good &= linked(&o);
+                }
+            }
+            good &= edited_labels(&o);
+            good &= dealt_in_two(&o, "The reference", reference::aggregate);
             #[cfg(feature = "library")]
             {
-                good &= linked(&o);
+                good &= linked_aggregates(&o);
+                good &= dealt_in_two(&o, "The linked library", oracle::library::linked_aggregate);
             }
         }
     }
@@ -143,6 +164,97 @@ fn beyond(o: &Options, visit: &mut dyn FnMut(&'static str, Call)) {
     damage::limits(&mut |c| visit("limits", c));
 }
 
+/// Visits every case of an aggregate, those with the longest parts last.
+#[cfg(feature = "library")]
+fn aggregated(o: &Options, visit: &mut dyn FnMut(&'static str, AggregateCall)) {
+    use aggregates::Extent;
+    let mut r = Random::new(o.seed.wrapping_mul(1_000_039));
+    let n = o.cases;
+    let mut random = |r: &mut Random, kind, extent, utf8, times: usize| {
+        for aggregate in Aggregate::ALL {
+            for grouping in Grouping::ALL {
+                for _ in 0..times {
+                    visit(kind, aggregates::random(r, aggregate, grouping, extent, utf8));
+                }
+            }
+        }
+    };
+    random(&mut r, "random", Extent::Small, true, n);
+    random(&mut r, "labels outside UTF-8", Extent::Small, false, n.div_ceil(10));
+    random(&mut r, "random, many series", Extent::Wide, true, n.div_ceil(100));
+    random(&mut r, "random, long rows", Extent::Long, true, n.div_ceil(100));
+    aggregates::all_labels_called(&mut |c| visit("all labels and groupings", c));
+    aggregates::all_readings(&mut |c| visit("all readings by threes", c));
+    aggregates::requests(&mut |c| visit("requests with every byte", c));
+    for _ in 0..n {
+        visit("bytes changed", aggregates::changed_bytes(&mut r));
+    }
+    aggregates::damaged(&mut r, n.div_ceil(4), &mut |c| visit("damaged vectors", c));
+    for _ in 0..n.div_ceil(20) {
+        aggregates::rooms(&mut r, &mut |c| visit("lent parts of every length", c));
+    }
+    aggregates::limits(&mut |c| visit("limits", c));
+    damage::limits(&mut |c| {
+        for (labels, readings) in [(c.left_labels, c.left), (c.right_labels, c.right)] {
+            visit("limits", AggregateCall { request: vec![0, 1, 0], labels, readings, room: c.room });
+        }
+    });
+    for _ in 0..n.div_ceil(2000) {
+        for aggregate in Aggregate::ALL {
+            for grouping in Grouping::ALL {
+                let c = aggregates::random(&mut r, aggregate, grouping, Extent::Full, true);
+                visit("random, many series with long rows", c);
+            }
+        }
+    }
+}
+
+/// The label of every total, held against the Rust's.
+fn edited_labels(o: &Options) -> bool {
+    println!("The reference's edited labels against the Rust's remove_group_tags, seed {}", o.seed);
+    let mut tally = Tally::new(o.show);
+    aggregates::all_labels(&mut |request, vector| {
+        for series in &vector.series {
+            tally.count_edited("all labels and groupings", request, &series.labels);
+        }
+    });
+    let mut r = Random::new(o.seed.wrapping_mul(1_000_081));
+    for grouping in Grouping::ALL {
+        for _ in 0..o.cases {
+            let (request, labels) = aggregates::random_edit(&mut r, grouping);
+            tally.count_edited("random", &request, &labels);
+        }
+    }
+    tally.report()
+}
+
+/// Whole calls and their two piles. Of the output parts some are long, some just long enough for the whole, some one short.
+fn dealt_in_two(o: &Options, who: &str, run: Run) -> bool {
+    use aggregates::Extent;
+    println!("{who} on aggregates dealt into two piles, seed {}", o.seed);
+    let mut tally = Tally::new(o.show);
+    let mut r = Random::new(o.seed.wrapping_mul(1_000_099));
+    let extents = [
+        ("random", Extent::Small, o.cases),
+        ("random, many series", Extent::Wide, o.cases.div_ceil(40)),
+        ("random, long rows", Extent::Long, o.cases.div_ceil(40)),
+    ];
+    for (kind, extent, times) in extents {
+        for _ in 0..times {
+            let (aggregate, grouping, utf8) = (r.pick(&Aggregate::ALL), r.pick(&Grouping::ALL), r.one_in(2));
+            let mut whole = aggregates::random(&mut r, aggregate, grouping, extent, utf8);
+            if let (Ok(answer), true) = (reference::aggregate(&whole), r.one_in(2)) {
+                let (labels, readings) = (answer.labels.len(), answer.readings.len());
+                let short = r.pick(&[(0, 0), (0, 0), (1, 0), (0, 1)]);
+                whole.room = Room { labels: labels.saturating_sub(short.0), readings: readings.saturating_sub(short.1) };
+            }
+            let deal = dealt(&mut r, whole).expect("a good call");
+            tally.count_deal(kind, &deal, run);
+        }
+    }
+    tally.report()
+}
+
 fn against_rust(o: &Options) -> bool {
     println!("The reference against the Rust, seed {}, {} random cases an operator", o.seed, o.cases);
     let mut tally = Tally::new(o.show);
@@ -177,6 +289,18 @@ fn linked(o: &Options) -> bool {
         cases::all_merges(allowance, &mut |c| tally.count_library(kind, &c, &mut library));
     }
     beyond(o, &mut |kind, c| tally.count_library(kind, &c, &mut library));
+    tally.report()
+}
+
+#[cfg(feature = "library")]
+fn linked_aggregates(o: &Options) -> bool {
+    let mut library = oracle::library::Linked::default();
+    println!("{} against the reference: aggregates, seed {}", library.name(), o.seed);
+    let mut tally = Tally::new(o.show);
+    aggregated(o, &mut |kind, c| {
+        let checked = library.check_aggregate(&c);
+        tally.count_aggregate(kind, &c, checked);
+    });
     tally.report()
 }
 

@@ -1,11 +1,12 @@
-//! The Rust's `exec_binop`, run on taken vectors.
+//! The Rust's `exec_binop`, run on taken vectors, and its `remove_group_tags`.
 use std::panic::{catch_unwind, AssertUnwindSafe};
 use std::sync::Arc;
 
 use metricsql_parser::ast::Operator as RustOperator;
-use metricsql_parser::prelude::{BinModifier, Labels as RustLabels, VectorMatchCardinality, VectorMatchModifier};
+use metricsql_parser::prelude::Labels as RustLabels;
+use metricsql_parser::prelude::{AggregateModifier, BinModifier, VectorMatchCardinality, VectorMatchModifier};
 use metricsql_runtime::{exec_binop, MetricName, RuntimeError, Tag as RustTag, Timeseries};
-use reference::{Grid, Join, Labels, Matching, Operator, Query, Series, Tag, Vector};
+use reference::{Grid, Grouping, Join, Labels, Matching, Operator, Query, Request, Series, Tag, Vector};
 
 /// What the Rust gave.
 #[derive(Debug)]
@@ -108,8 +109,22 @@ fn timeseries(vector: &Vector) -> Option<Vec<Timeseries>> {
 }
 
 fn back(ts: &Timeseries) -> Series {
+    Series { labels: labels_back(&ts.metric_name), row: ts.values.iter().map(|v| v.to_bits()).collect() }
+}
+
+fn labels_back(name: &MetricName) -> Labels {
     let tag = |t: &RustTag| Tag { key: t.key.clone().into_bytes(), value: t.value.clone().into_bytes() };
-    let labels =
-        Labels { name: ts.metric_name.metric_group.clone().into_bytes(), tags: ts.metric_name.tags.iter().map(tag).collect() };
-    Series { labels, row: ts.values.iter().map(|v| v.to_bits()).collect() }
+    Labels { name: name.metric_group.clone().into_bytes(), tags: name.tags.iter().map(tag).collect() }
+}
+
+/// Labels as the Rust's `remove_group_tags` edits them; None where they are not UTF-8.
+pub fn edited_total(labels: &Labels, request: &Request) -> Option<Labels> {
+    let list = request.list.iter().map(|label| text(label)).collect::<Option<_>>()?;
+    let modifier = match request.grouping {
+        Grouping::By => AggregateModifier::By(list),
+        Grouping::Without => AggregateModifier::Without(list),
+    };
+    let mut edited = metric_name(labels)?;
+    edited.remove_group_tags(&Some(modifier));
+    Some(labels_back(&edited))
 }

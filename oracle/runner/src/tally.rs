@@ -1,10 +1,12 @@
 //! Counts of cases and outcomes, and the differences found.
 use std::collections::BTreeMap;
 
-use reference::Call;
+use reference::{AggregateCall, Call, Labels, Request};
 
 use crate::compare::{compare, Agreement, Verdict};
+use crate::dealing::{self, Deal, Run};
 use crate::library::{Library, Program};
+use crate::rust;
 
 pub struct Tally {
     show: usize,
@@ -27,7 +29,7 @@ impl Tally {
             Verdict::Known(known) => format!("listed: {known:?}"),
             Verdict::Apart(why) => format!("not compared: {why}"),
             Verdict::Differ(difference) => {
-                self.difference(kind, call, &difference);
+                self.difference(kind, &difference, || given(call));
                 "UNLISTED DIFFERENCE".to_string()
             }
         };
@@ -46,8 +48,54 @@ impl Tally {
         *self.outcomes.entry(outcome).or_default() += 1;
         self.count_query(call);
         if let Err(difference) = library.check(call) {
-            self.difference(kind, call, &difference);
+            self.difference(kind, &difference, || given(call));
         }
+    }
+
+    /// Counts a call of an aggregate, whose comparison with the reference came to this.
+    pub fn count_aggregate(&mut self, kind: &'static str, call: &AggregateCall, checked: Result<(), String>) {
+        *self.kinds.entry(kind).or_default() += 1;
+        let outcome = match reference::aggregate(call) {
+            Ok(_) => "answer".to_string(),
+            Err(r) => format!("refused {:2}", r.number),
+        };
+        *self.outcomes.entry(outcome).or_default() += 1;
+        self.count_request(&call.request);
+        if let Err(difference) = checked {
+            self.difference(kind, &difference, || given_aggregate(call));
+        }
+    }
+
+    /// Holds a total's label against that of the Rust.
+    pub fn count_edited(&mut self, kind: &'static str, request: &Request, labels: &Labels) {
+        let (ours, theirs) = (labels.edited_total(request), rust::edited_total(labels, request));
+        *self.kinds.entry(kind).or_default() += 1;
+        let outcome = match &theirs {
+            None => "not compared: not UTF-8",
+            Some(theirs) if *theirs == ours => "agree: label",
+            Some(_) => "UNLISTED DIFFERENCE",
+        };
+        *self.outcomes.entry(outcome.to_string()).or_default() += 1;
+        self.count_request(&request.bytes());
+        if outcome == "UNLISTED DIFFERENCE" {
+            let difference = format!("the Rust gives {theirs:?}, the reference {ours:?}");
+            self.difference(kind, &difference, || format!("  request {request:?}\n  labels {labels:?}"));
+        }
+    }
+
+    /// Runs a dealt call and both its piles.
+    pub fn count_deal(&mut self, kind: &'static str, deal: &Deal, run: Run) {
+        *self.kinds.entry(kind).or_default() += 1;
+        let outcome = match dealing::check(deal, run) {
+            Ok(true) => "the whole answers, and so do the piles",
+            Ok(false) => "the whole is refused",
+            Err(difference) => {
+                self.difference(kind, &difference, || format!("{}\n  piles {:?}", given_aggregate(&deal.whole), deal.in_second));
+                "UNLISTED DIFFERENCE"
+            }
+        };
+        *self.outcomes.entry(outcome.to_string()).or_default() += 1;
+        self.count_request(&deal.whole.request);
     }
 
     pub fn count_input(&mut self, kind: &'static str, input: &[u8], program: &Program) {
@@ -79,14 +127,26 @@ impl Tally {
         }
     }
 
-    fn difference(&mut self, kind: &str, call: &Call, difference: &str) {
+    /// Aggregate, grouping and length of the list, where the request has them.
+    fn count_request(&mut self, request: &[u8]) {
+        let Ok(request) = reference::take_request(request) else {
+            return;
+        };
+        let listed = match request.list.len() {
+            0 => "no label",
+            1..=3 => "1 to 3 labels",
+            4..=31 => "4 to 31 labels",
+            _ => "32 labels",
+        };
+        for part in [format!("aggregate {:?}", request.aggregate), format!("{:?} {listed}", request.grouping)] {
+            *self.queries.entry(part).or_default() += 1;
+        }
+    }
+
+    fn difference(&mut self, kind: &str, difference: &str, given: impl FnOnce() -> String) {
         self.differences += 1;
         if self.differences <= self.show as u64 {
-            println!("DIFFERENCE ({kind}): {difference}");
-            println!("  query {:02x?}", call.query);
-            println!("  left  {:02x?} {:016x?}", call.left_labels, call.left);
-            println!("  right {:02x?} {:016x?}", call.right_labels, call.right);
-            println!("  room  {:?}", call.room);
+            println!("DIFFERENCE ({kind}): {difference}\n{}", given());
         }
     }
 
@@ -109,4 +169,23 @@ impl Tally {
 
 fn pairs(counts: &BTreeMap<String, u64>) -> Vec<(String, u64)> {
     counts.iter().map(|(k, n)| (k.clone(), *n)).collect()
+}
+
+fn given(call: &Call) -> String {
+    [
+        format!("  query {:02x?}", call.query),
+        format!("  left  {:02x?} {:016x?}", call.left_labels, call.left),
+        format!("  right {:02x?} {:016x?}", call.right_labels, call.right),
+        format!("  room  {:?}", call.room),
+    ]
+    .join("\n")
+}
+
+fn given_aggregate(call: &AggregateCall) -> String {
+    [
+        format!("  request {:02x?}", call.request),
+        format!("  vector  {:02x?} {:016x?}", call.labels, call.readings),
+        format!("  room    {:?}", call.room),
+    ]
+    .join("\n")
 }

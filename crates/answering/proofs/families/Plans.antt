@@ -15,9 +15,13 @@ use Rattle.semantics.specs.Events.{Duplicate}
 use Rattle.plan.specs.Pairs.{pairsClash, pairsFrom, pairSeries}
 use Rattle.plan.specs.Joins.{JoinWork, joinSeries}
 use Rattle.plan.specs.Sets.{ruleBy, workFor, setRows, setSeries}
+use Rattle.plan.specs.Aggregates.{groupRows, groupSeries}
 use Rattle.labels.specs.Names.{namesOf}
+use Rattle.labels.specs.Matchings.{matchingOf}
+use Rattle.kept_labels.specs.Edited.{kept}
 use Rattle.query.specs.declared.Query.{Query}
-use Rattle.side_parts.specs.Lent.{Sides, rowsOnly, BothHeld}
+use Rattle.query.specs.aggregations.Requests.{aggregateOf}
+use Rattle.side_parts.specs.Lent.{Sides, rowsOnly, sideLabels, BothHeld}
 use Rattle.index_lists.specs.Places.{NotedAll}
 use Rattle.answers.specs.declared.Planned.{Planned}
 use Rattle.answers.specs.declared.Planned.the-variants as P
@@ -38,10 +42,14 @@ use Rattle.join_plan.proofs.Coding.{join-codes, join-series}
 use Rattle.set_series.specs.Series.{codedSetSeries}
 use Rattle.set_plan.specs.Codes.{setCodes}
 use Rattle.set_plan.proofs.Coding as Sets
+use Rattle.group_plan.specs.Codes.{groupCodes}
+use Rattle.group_plan.proofs.Coding as Grouped
+use Rattle.answering.specs.declared.families.Groups.{Groups}
 use Rattle.answering.specs.declared.families.Rule.{Rule}
 use Rattle.answering.specs.declared.families.Rule.the-variants as R
-use Rattle.answering.specs.families.Codes.{planSeries, CodeIn}
+use Rattle.answering.specs.families.Codes.{planSeries, CodeIn, codedGroupSeries}
 use Rattle.answering.specs.families.Plans.{ruleClash, ruleCodes, earlyCodes, ruleSeries, RulePlanned}
+use Rattle.answering.proofs.families.Grouping.{group-in, group-series}
 
 -- one-to-one, planned without the records
 
@@ -176,3 +184,54 @@ pub set-planned : (rule : Rule) (first second : List ℕ) (s : Sides) → BothHe
     → NotedAll (setCodes (workFor (kindOf op) s) s) 0 before codes r → RulePlanned rule first second s before codes marks (P.Rows r)
 set-planned rule first second s held op e before codes marks r long marks-long noted =
     rw e (set-made op first second s held before codes marks r long marks-long noted)
+
+-- aggregates
+
+module _ (g : Groups) (first second : List ℕ) (s : Sides) (held : BothHeld s) (before codes marks : List ℕ) (r : ℕ)
+    (long : length before ≡ maxSeries) (marks-long : length marks ≡ 4096)
+    (noted : NotedAll (groupCodes (s .left .keys)) 0 before codes r) where
+  abbrev groups : List ℕ
+  groups = groupCodes (s .left .keys)
+
+  abbrev answer : ℕ → Series
+  answer =
+      groupSeries (aggregateOf (g .aggregate)) (kept (matchingOf (g .matching)) (namesOf first) (g .named))
+      (s .shape .points) (sideLabels (s .left)) (s .left .keys) (s .left .rows)
+
+  groups-told : PlannedAs none (groupCodes (s .left .keys)) [] before codes (P.Rows r)
+  groups-told = plan-rows none groups [] before codes refl r (noted .count ∙ zero-add (length groups)) (noted .content)
+
+  groups-listed : (n : ℕ) → P.Rows r ≡ P.Rows n → n ≤ maxSeries → take n codes ≡ groups
+  groups-listed n h few =
+      planned-codes none groups [] before codes (P.Rows r) groups-told n h (omega (arith, few, long))
+
+  groups-counted : (n : ℕ) → P.Rows r ≡ P.Rows n → n ≡ length groups
+  groups-counted n h = planned-count none groups [] before codes (P.Rows r) groups-told n h
+
+  groups-series : (n : ℕ) → P.Rows r ≡ P.Rows n → n ≤ maxSeries
+      → map (planSeries (R.Groups g) first second s (take n codes) marks) (upTo n)
+      ≡ map answer (groupRows (s .left .keys))
+  groups-series n h few =
+      rw (groups-listed n h few, groups-counted n h)
+      (coded-series (codedGroupSeries g (namesOf first) s) groups
+      ∙ Grouped.codes-given (s .left .keys) (held .left .rows .few) (codedGroupSeries g (namesOf first) s) answer
+      (λ x c k. group-series s held x c k g first))
+
+  groups-made : RulePlanned (R.Groups g) first second s before codes marks (P.Rows r)
+  groups-made = record {
+    planned = groups-told;
+    count = λ n h. length-map (groupRows (s .left .keys)) answer ∙ sym (Grouped.codes-count (s .left .keys));
+    marks-long = marks-long;
+    inside = λ n h few k l.
+        let inside : k < length groups = omega (arith, l, groups-counted n h) in
+        rw (groups-listed n h few)
+        (group-in s held _ _ (Grouped.code-at (s .left .keys) (held .left .rows .few) k inside));
+    series = groups-series;
+  }
+
+pub groups-planned : (rule : Rule) (first second : List ℕ) (s : Sides) → BothHeld s → (g : Groups) → rule ≡ R.Groups g
+    → (before codes marks : List ℕ) (r : ℕ) → length before ≡ maxSeries → length marks ≡ 4096
+    → NotedAll (groupCodes (s .left .keys)) 0 before codes r
+    → RulePlanned rule first second s before codes marks (P.Rows r)
+groups-planned rule first second s held g e before codes marks r long marks-long noted =
+    rw e (groups-made g first second s held before codes marks r long marks-long noted)

@@ -13,8 +13,12 @@ use Rattle.plan.specs.Conclude.{conclude}
 use Rattle.plan.specs.Pairs.{pairsClash, pairsFrom, pairSeries}
 use Rattle.plan.specs.Joins.{JoinWork, joinSeries}
 use Rattle.plan.specs.Sets.{workFor, setRows, setSeries}
+use Rattle.plan.specs.Aggregates.{groupRows, groupSeries}
 use Rattle.labels.specs.Names.{namesOf}
-use Rattle.side_parts.specs.Lent.{Sides}
+use Rattle.labels.specs.Matchings.{matchingOf}
+use Rattle.kept_labels.specs.Edited.{kept}
+use Rattle.query.specs.aggregations.Requests.{aggregateOf}
+use Rattle.side_parts.specs.Lent.{Sides, sideLabels}
 use Rattle.answers.specs.declared.Planned.{Planned}
 use Rattle.answers.specs.declared.Planned.the-variants.{Rows}
 use Rattle.answers.specs.Plans.{PlannedAs, upTo}
@@ -25,31 +29,35 @@ use Rattle.join_series.specs.Works.{codedWork, manySide}
 use Rattle.join_plan.specs.Plans as Joins
 use Rattle.join_plan.specs.Plans.{firstClash, joinCodes}
 use Rattle.set_plan.specs.Codes.{setCodes}
+use Rattle.group_plan.specs.Codes.{groupCodes}
 use Rattle.answering.specs.declared.families.Rule.{Rule}
-use Rattle.answering.specs.declared.families.Rule.the-variants.{Pairs, Join, Set}
+use Rattle.answering.specs.declared.families.Rule.the-variants.{Pairs, Join, Set, Groups}
 use Rattle.answering.specs.families.Codes.{planSeries, CodeIn}
 
 -- what a join does by its lists
 abbrev joining : Work → List ℕ → List ℕ → JoinWork
 joining w first second = codedWork w (namesOf first) (namesOf second)
 
--- its first clash: a set rule has none
+-- its first clash: a set rule and an aggregate have none
 abbrev pub ruleClash : Rule → List ℕ → List ℕ → Sides → Option Duplicate
 ruleClash (Pairs q) first second s = pairsClash (q .allowance) s 0 (s .left .keys)
 ruleClash (Join w) first second s = firstClash (joining w first second) (manySide w) s
 ruleClash (Set op) first second s = none
+ruleClash (Groups g) first second s = none
 
 -- the codes of its rows, in answer order
 abbrev pub ruleCodes : Rule → List ℕ → List ℕ → Sides → List ℕ
 ruleCodes (Pairs q) first second s = pairCodes s
 ruleCodes (Join w) first second s = joinCodes (joining w first second) s
 ruleCodes (Set op) first second s = setCodes (workFor (kindOf op) s) s
+ruleCodes (Groups g) first second s = groupCodes (s .left .keys)
 
 -- the codes that are noted when it comes to a clash
 abbrev pub earlyCodes : Rule → List ℕ → List ℕ → Sides → List ℕ
 earlyCodes (Pairs q) first second s = []
 earlyCodes (Join w) first second s = Joins.earlyCodes (joining w first second) (manySide w) s
 earlyCodes (Set op) first second s = []
+earlyCodes (Groups g) first second s = []
 
 -- its answer series
 abbrev pub ruleSeries : Rule → List ℕ → List ℕ → Sides → List Series
@@ -58,6 +66,11 @@ ruleSeries (Pairs q) first second s =
 ruleSeries (Join w) first second s =
     map (joinSeries (joining w first second) s) (joinCodes (joining w first second) s)
 ruleSeries (Set op) first second s = map (setSeries (workFor (kindOf op) s) s) (setRows (workFor (kindOf op) s) s)
+ruleSeries (Groups g) first second s =
+    map
+    (groupSeries (aggregateOf (g .aggregate)) (kept (matchingOf (g .matching)) (namesOf first) (g .named))
+    (s .shape .points) (sideLabels (s .left)) (s .left .keys) (s .left .rows))
+    (groupRows (s .left .keys))
 
 -- 01: the first clash, or else the answer series as they fit
 abbrev pub ruleOutcome : Rule → List ℕ → List ℕ → ℕ → ℕ → Sides → Outcome

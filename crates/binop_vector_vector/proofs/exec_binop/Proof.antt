@@ -1,7 +1,8 @@
 -- `exec_binop` meets its contract. Assumes nothing.
 use mathlib.Core.Path.{refl}
 use Rattle.keyed_sides.specs.TakenSides.{took}
-use Rattle.binop_vector_vector.proofs.Stages.{refused-number, taken-number, asked, ran-refused, ran-asked, ran-fault, ran-taken}
+use Rattle.vector_faults.proofs.Faults.{taken-number, ran-fault, ran-taken}
+use Rattle.binop_vector_vector.proofs.Stages.{refused-number, asked, ran-refused, ran-asked}
 use Rattle.binop_vector_vector.proofs.Stages.{ran-apart, ran-on-two-grids, ran-alike, held-alike}
 use borrow.Author.Needs.{needs}
 use Rattle.binop_vector_vector.proofs.exec_binop.Statement.{statement}

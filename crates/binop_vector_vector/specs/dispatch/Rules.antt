@@ -50,6 +50,7 @@ abbrev pub firstSide : Rule → ℕ
 firstSide (R.Pairs q) = 0
 firstSide (R.Join w) = cond (w .left) 0 1
 firstSide (R.Set op) = 0
+firstSide (R.Groups g) = 0
 
 pub record FirstSide (rule : Rule) (r : ℕ) : Type 0 where
   pub side : r ≡ firstSide rule

@@ -13,18 +13,17 @@ use lib.Seq.{take-suc, take-all, length-take-le, getD-append-add, getD-set-same,
 use denote.Ref.{RefT}
 use borrow.Author.Tests.{eqb-true, eqb-false, lt-ltb, le-ltb, ltb-true, ltb-false}
 use Rattle.model.specs.Lists.{cases}
-use Rattle.model.specs.Labels.{Labels, sameTags}
-use Rattle.model.specs.Query.{Matching, keyOf}
+use Rattle.model.specs.Labels.{Labels}
+use Rattle.model.specs.Query.{Matching}
 use Rattle.model.specs.Laws.Lists.{map-append, map-at}
 use Rattle.labels.specs.Names.{namesOf}
 use Rattle.record_tags.specs.Lenient.{labelsOf}
-use Rattle.chosen_tags.specs.Keys.{recordKey, hashOf}
 use Rattle.side_parts.specs.Sides.{recordAt, labelsIn}
 use Rattle.side_parts.specs.Lent.{lent}
 use Rattle.key_numbers.specs.key_lookup.Firsts.{first-within, first-found}
 use Rattle.key_numbers.specs.key_lookup.Buckets.{buckets, bucketOf, noted, Noted}
-use Rattle.key_numbers.specs.key_lookup.Keys.{labelsOver, sameKeys, firstPlace, keyHashes, BothHashed}
-use Rattle.key_numbers.specs.key_lookup.KeyLaws.{place-key}
+use Rattle.key_numbers.specs.key_lookup.Keys.{labelsOver, sameKeys, firstPlace, keyHash, keyHashes, BothHashed}
+use Rattle.key_numbers.specs.key_lookup.KeyLaws.{place-hash}
 use Rattle.key_numbers.proofs.key_lookup.Finding.{side-count, labels-here, find-hash}
 
 -- `note` and `place_noted`
@@ -108,8 +107,8 @@ module _ (hashes : List ℕ) where
 
 -- the records of two sides, with their hashes and a table of them
 
-module _ (m : Matching) (list : List ℕ) (arrays at : List (RefT (List ℕ))) (leftHashes hashes : List ℕ)
-    (s : BothHashed m (namesOf list) arrays at leftHashes hashes) where
+module _ (named : Bool) (m : Matching) (list : List ℕ) (arrays at : List (RefT (List ℕ))) (leftHashes hashes : List ℕ)
+    (s : BothHashed named m (namesOf list) arrays at leftHashes hashes) where
   abbrev lefts : List Labels
   lefts = labelsIn (lent arrays 0) (lent at 0)
 
@@ -117,10 +116,10 @@ module _ (m : Matching) (list : List ℕ) (arrays at : List (RefT (List ℕ))) (
   rights = labelsIn (lent arrays 1) (lent at 1)
 
   left-long : length lefts ≡ length leftHashes
-  left-long = side-count m list (lent arrays 0) (lent at 0) leftHashes (s .left)
+  left-long = side-count named m list (lent arrays 0) (lent at 0) leftHashes (s .left)
 
   right-long : length rights ≡ length hashes
-  right-long = side-count m list (lent arrays 1) (lent at 1) hashes (s .right)
+  right-long = side-count named m list (lent arrays 1) (lent at 1) hashes (s .right)
 
   both-long : length (labelsOver arrays at) ≡ length leftHashes + length hashes
   both-long = length-append lefts rights ∙ rw (left-long, right-long)
@@ -129,39 +128,41 @@ module _ (m : Matching) (list : List ℕ) (arrays at : List (RefT (List ℕ))) (
 
   pub own-hash : (j : ℕ) → length leftHashes ≤ j → j < length leftHashes + length hashes → (x : List ℕ)
       → x ≡ recordAt (lent arrays 1) (lent at 1) (j - length leftHashes)
-      → getD hashes (j - length leftHashes) 0 ≡ hashOf (recordKey m list x)
-  own-hash j h l x hx = find-hash m list (lent arrays 1) (lent at 1) hashes (s .right) (j - length leftHashes) (omega arith) x hx
+      → getD hashes (j - length leftHashes) 0 ≡ keyHash named m (namesOf list) (labelsOf x)
+  own-hash j h l x hx =
+      find-hash named m list (lent arrays 1) (lent at 1) hashes (s .right) (j - length leftHashes) (omega arith) x hx
 
-  module _ (rec : List ℕ) (j : ℕ) (r : Bool) (x : List ℕ) (told : r ≡ sameTags (recordKey m list x) (recordKey m list rec)) where
-    told-of : (l : Labels) → l ≡ labelsOf x → r ≡ sameKeys m (namesOf list) l (labelsOf rec)
-    told-of l e = told ∙ ap (λ (y : Labels). sameKeys m (namesOf list) y (labelsOf rec)) (sym e)
+  module _ (rec : List ℕ) (j : ℕ) (r : Bool) (x : List ℕ)
+      (told : r ≡ sameKeys named m (namesOf list) (labelsOf x) (labelsOf rec)) where
+    told-of : (l : Labels) → l ≡ labelsOf x → r ≡ sameKeys named m (namesOf list) l (labelsOf rec)
+    told-of l e = told ∙ ap (λ (y : Labels). sameKeys named m (namesOf list) y (labelsOf rec)) (sym e)
 
     pub has-left : j < length leftHashes → x ≡ recordAt (lent arrays 0) (lent at 0) j
-        → r ≡ sameKeys m (namesOf list) (getD (labelsOver arrays at) j (labelsOf [])) (labelsOf rec)
+        → r ≡ sameKeys named m (namesOf list) (getD (labelsOver arrays at) j (labelsOf [])) (labelsOf rec)
     has-left h hx =
         told-of (getD (labelsOver arrays at) j (labelsOf []))
         (List·getD-append lefts rights (labelsOf []) j (omega (arith, left-long))
-        ∙ labels-here m list (lent arrays 0) (lent at 0) leftHashes (s .left) j h ∙ ap labelsOf (sym hx))
+        ∙ labels-here named m list (lent arrays 0) (lent at 0) leftHashes (s .left) j h ∙ ap labelsOf (sym hx))
 
     pub has-own : length leftHashes ≤ j → j < length leftHashes + length hashes
         → x ≡ recordAt (lent arrays 1) (lent at 1) (j - length leftHashes)
-        → r ≡ sameKeys m (namesOf list) (getD (labelsOver arrays at) j (labelsOf [])) (labelsOf rec)
+        → r ≡ sameKeys named m (namesOf list) (getD (labelsOver arrays at) j (labelsOf [])) (labelsOf rec)
     has-own h l hx =
         let place : j ≡ length lefts + (j - length leftHashes) = omega (arith, left-long) in
         told-of (getD (labelsOver arrays at) j (labelsOf []))
         (ap (λ (k : ℕ). getD (labelsOver arrays at) k (labelsOf [])) place
         ∙ getD-append-add lefts rights (j - length leftHashes) (labelsOf [])
-        ∙ labels-here m list (lent arrays 1) (lent at 1) hashes (s .right) (j - length leftHashes) (omega arith)
+        ∙ labels-here named m list (lent arrays 1) (lent at 1) hashes (s .right) (j - length leftHashes) (omega arith)
         ∙ ap labelsOf (sym hx))
 
   -- `key_number`: where the key stands, its first place is not before the one noted
 
   module _ (table rec : List ℕ) (t : Noted table (leftHashes ++ hashes)) (h : ℕ)
-      (hh : h ≡ hashOf (recordKey m list rec)) (j : ℕ) (hj : j ≡ getD table (bucketOf h) 0) where
+      (hh : h ≡ keyHash named m (namesOf list) (labelsOf rec)) (j : ℕ) (hj : j ≡ getD table (bucketOf h) 0) where
     abbrev place : ℕ
-    place = firstPlace m (namesOf list) (labelsOver arrays at) (labelsOf rec)
+    place = firstPlace named m (namesOf list) (labelsOver arrays at) (labelsOf rec)
 
-    all-hashes : leftHashes ++ hashes ≡ keyHashes m (namesOf list) (labelsOver arrays at)
+    all-hashes : leftHashes ++ hashes ≡ keyHashes named m (namesOf list) (labelsOver arrays at)
     all-hashes = rw (map-append, ← s .left .alike, ← s .right .alike)
 
     early : place < length (labelsOver arrays at) → j ≤ place
@@ -169,15 +170,15 @@ module _ (m : Matching) (list : List ℕ) (arrays at : List (RefT (List ℕ))) (
         let some = labelsOf [] in
         let hash : getD (leftHashes ++ hashes) place 0 ≡ h =
         ap (λ (x : List ℕ). getD x place 0) all-hashes
-        ∙ map-at (λ y. hashOf (keyOf m (namesOf list) (y .tags))) (labelsOver arrays at) place some 0 l
-        ∙ ap hashOf (place-key m (namesOf list) (labelsOver arrays at) (labelsOf rec) some l)
+        ∙ map-at (keyHash named m (namesOf list)) (labelsOver arrays at) place some 0 l
+        ∙ place-hash named m (namesOf list) (labelsOver arrays at) (labelsOf rec) some l
         ∙ sym hh in
         let noted-there = t .early place (omega (arith, l, both-long, length-append leftHashes hashes)) in
         omega (arith, hj, (rw hash at noted-there))
 
     place-most : place ≤ length (labelsOver arrays at)
     unfolding firstPlace
-    place-most = first-within (λ k. sameKeys m (namesOf list) k (labelsOf rec)) (labelsOver arrays at)
+    place-most = first-within (λ k. sameKeys named m (namesOf list) k (labelsOf rec)) (labelsOver arrays at)
 
     pub key-absent : length leftHashes + length hashes ≤ j → length leftHashes + length hashes ≡ place
     key-absent l =
@@ -186,12 +187,12 @@ module _ (m : Matching) (list : List ℕ) (arrays at : List (RefT (List ℕ))) (
         (λ e. let k = ltb-false place (length (labelsOver arrays at)) e in omega (arith, k, place-most, both-long))
 
     pub key-there : j < length leftHashes + length hashes → (r : Bool)
-        → r ≡ sameKeys m (namesOf list) (getD (labelsOver arrays at) j (labelsOf [])) (labelsOf rec) → r ≡ true
+        → r ≡ sameKeys named m (namesOf list) (getD (labelsOver arrays at) j (labelsOf [])) (labelsOf rec) → r ≡ true
         → j ≡ place
     unfolding firstPlace
     key-there l r hr t =
-        let k : firstPlace m (namesOf list) (labelsOver arrays at) (labelsOf rec) ≤ j =
-        first-found (λ k. sameKeys m (namesOf list) k (labelsOf rec)) (labelsOver arrays at) j (labelsOf [])
+        let k : firstPlace named m (namesOf list) (labelsOver arrays at) (labelsOf rec) ≤ j =
+        first-found (λ k. sameKeys named m (namesOf list) k (labelsOf rec)) (labelsOver arrays at) j (labelsOf [])
         (omega (arith, l, both-long)) (sym hr ∙ t) in
         let q = early (omega (arith, k, l, both-long)) in
         omega (arith, k, q)

@@ -11,22 +11,24 @@ use Rattle.key_numbers.proofs.number_noted.Statement.{statement}
 use Rattle.key_numbers.proofs.number_noted.Tie as tie
 
 abbrev Inv-loop : tie.InvT-loop
-Inv-loop t1 t2 left-hashes matching list hashes₀ keys₀ table₀ labels at own i₀ hashes keys table i =
-    Numbering (matchingOf matching) list (labelsIn (lent t1 0) (lent t2 0)) left-hashes (lent t1 1) (lent t2 1) hashes₀ keys₀ table₀ hashes keys table i
+Inv-loop t1 t2 left-hashes named matching list hashes₀ keys₀ table₀ labels at own i₀ hashes keys table i =
+    Numbering named (matchingOf matching) list (labelsIn (lent t1 0) (lent t2 0)) left-hashes
+    (lent t1 1) (lent t2 1) hashes₀ keys₀ table₀ hashes keys table i
 
 abbrev μ-loop : tie.MeasureT-loop
-μ-loop t1 t2 left-hashes matching list hashes₀ keys₀ table₀ labels at own i₀ hashes keys table i = length keys₀ - i
+μ-loop t1 t2 left-hashes named matching list hashes₀ keys₀ table₀ labels at own i₀ hashes keys table i =
+    length keys₀ - i
 
 key-number-requires : tie.Need-key-number-requires Inv-loop μ-loop
 key-number-requires c κs =
     let turn = c .before .before .before .before .before .before .before in
-    let so-far = number-so-far _ _ _ _ _ _ _ _ _ _ _ _ _ (turn .before .loop .inv) (turn .loop-test .taken) in
+    let so-far = number-so-far _ _ _ _ _ _ _ _ _ _ _ _ _ _ (turn .before .loop .inv) (turn .loop-test .taken) in
     (record { left = search needs; right = so-far }, (search number-table, search needs))
 
 add-note : tie.Need-add-note Inv-loop μ-loop
 add-note c =
     let turn = c .before .before .before .before .before .before .before .before .before in
-    number-place _ _ _ _ _ _ _ _ _ _ _ _ _ (turn .before .loop .inv) (turn .loop-test .taken)
+    number-place _ _ _ _ _ _ _ _ _ _ _ _ _ _ (turn .before .loop .inv) (turn .loop-test .taken)
 
 pub number-noted-spec : {M : Type 1} → statement M
 number-noted-spec =

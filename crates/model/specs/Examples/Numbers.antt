@@ -64,3 +64,6 @@ signalling = 0x7ff0_0000_0000_0001
 
 abbrev pub smallest : ℕ
 smallest = 0x0000_0000_0000_0001
+
+abbrev pub largest : ℕ
+largest = 0x7fef_ffff_ffff_ffff

@@ -1,4 +1,4 @@
--- Two tag lists in order are equal where every key's value is, and tags are the same just where they are equal. Assumes nothing.
+-- Two tag lists in order are equal where every key's value is; tags and labels are the same just where they are equal. Assumes nothing.
 use Prim.Native.Nat.{ℕ}
 use mathlib.Core.Path.{_≡_, refl, sym, ap, _∙_}
 use mathlib.Core.Bool.{true, _&&_}
@@ -6,7 +6,7 @@ use mathlib.Core.Option.{Option, none, some}
 use mathlib.Core.List.{List, [], _∷_}
 use native.Mathlib.Omega.{arith}
 use Rattle.model.specs.Lists.{cases}
-use Rattle.model.specs.Labels.{Tag, sameBytes, below, ascending, valueOf, sameTags}
+use Rattle.model.specs.Labels.{Tag, Labels, sameBytes, below, ascending, valueOf, sameTags, sameLabels}
 use Rattle.model.specs.Laws.Booleans.{never, both-of}
 use Rattle.model.specs.Laws.Order.{same-is, same-refl, below-other, value-before, value-none, value-here, value-later, ascending-tail}
 use Rattle.model.specs.Laws.Order.{ascending-cons, may-follow}
@@ -31,6 +31,18 @@ same-tags-refl (t ∷ ts) = rw (same-refl (t .key), same-refl (t .value)) (same-
 
 pub is-same-tags : (ts us : List Tag) → ts ≡ us → sameTags ts us ≡ true
 is-same-tags ts us e = rw (← e) (same-tags-refl ts)
+
+pub same-labels-is : (l m : Labels) → sameLabels l m ≡ true → l ≡ m
+unfolding sameLabels
+same-labels-is l m e =
+    let h = both-of (sameBytes (l .name) (m .name)) (sameTags (l .tags) (m .tags)) e in
+    let n = same-is (l .name) (m .name) (h .0) in
+    let t = same-tags-is (l .tags) (m .tags) (h .1) in
+    λ i. record { name = n i; tags = t i }
+
+pub same-labels-refl : (l : Labels) → sameLabels l l ≡ true
+unfolding sameLabels
+same-labels-refl l = rw (same-refl (l .name), same-tags-refl (l .tags))
 
 not-some : {X : Type 0} (v : List ℕ) → _≡_ {A = Option (List ℕ)} none (some v) → X
 not-some v e = absurd (let z : _≡_ {A = ℕ} 0 1 = cc in omega arith)

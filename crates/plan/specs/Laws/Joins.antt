@@ -14,7 +14,7 @@ use Rattle.model.specs.Laws.Lists.{gather-append, gather-map, keep-map, map-app
 use Rattle.model.specs.Laws.Booleans.{never, not-true, not-false, both-of}
 use Rattle.model.specs.Laws.Tags.{same-tags-is, is-same-tags}
 use Rattle.model.specs.Labels.{Labels, sameTags}
-use Rattle.model.specs.Query.{Query, group, Side, left, right}
+use Rattle.model.specs.Query.{Query, sameKey, group, Side, left, right}
 use Rattle.model.specs.Vector.{Series}
 use Rattle.semantics.specs.Laws.Places.{on-same}
 use Rattle.semantics.specs.Places.{Place, Placed, Rank, numbered, placed, alongside}
@@ -587,20 +587,20 @@ module _ (q : Query) (many : Side) (sides : Sides) (bs os : List Series) (few : 
   -- the two kinds of query, over the sides of a call
   module _ (ls rs : List Series) (ks ms : List ℕ) where
     module _ (sees : (b : Series) (k : ℕ) → Sees q false ls rs ks ms b k
-        → ofSide (other many) (ofKey q (b .labels) (placed ls rs)) ≡ keyed (other many) k 0 ok os) where
+        → ofSide (other many) (ofKey (sameKey q) (b .labels) (placed ls rs)) ≡ keyed (other many) k 0 ok os) where
       comparison-emits : (b : Series) (i k : ℕ) → i < length bs → getD bs i noSeries ≡ b → getD mk i 0 ≡ k → Sees q false ls rs ks ms b k
-          → EmitsJoin (emission q rule (placed ls rs)) b i k
+          → EmitsJoin (emission (sameKey q) rule (placed ls rs)) b i k
       comparison-emits b i k w hb hk s =
           let part : eqb k dropped ≡ false = not-true (eqb k dropped) (sym (s .takes)) in
           let here : Placed = record { place = record { side = many; number = i }; series = b } in
-          let seen = ofKey q (b .labels) (placed ls rs) in
+          let seen = ofKey (sameKey q) (b .labels) (placed ls rs) in
           record {
             clashes = clash-produced (here .place) (rule here seen) ∙ taking-clash b i k seen (sees b k s) ∙ rw part;
             answers = λ n. good-produced (here .place) (rule here seen) ∙ taking-good b i k seen w hb hk (sees b k s) (rw part at n) ∙ rw part;
           }
 
       each-comparison : (i : ℕ) (cs : List Series) (xs : List ℕ) → From noSeries bs cs i → From 0 mk xs i → EachSees (Sees q false ls rs ks ms) cs xs
-          → EachJoin (emission q rule (placed ls rs)) i cs xs
+          → EachJoin (emission (sameKey q) rule (placed ls rs)) i cs xs
       unfolding EachJoin
       each-comparison i [] [] f fk e = tt
       each-comparison i [] (k ∷ xs) f fk e = e
@@ -612,24 +612,27 @@ module _ (q : Query) (many : Side) (sides : Sides) (bs os : List Series) (few : 
       )
 
     module _ (sees : (b : Series) (k : ℕ) → Sees q true ls rs ks ms b k → hasReadings b ≡ true
-        → ofSide (other many) (keep (λ x. hasReadings (x .series)) (ofKey q (b .labels) (placed ls rs))) ≡ keyed (other many) k 0 ok os) where
+        → ofSide (other many) (keep (λ x. hasReadings (x .series)) (ofKey (sameKey q) (b .labels) (placed ls rs)))
+        ≡ keyed (other many) k 0 ok os) where
       arithmetic-emits : (b : Series) (i k : ℕ) → i < length bs → getD bs i noSeries ≡ b → getD mk i 0 ≡ k → Sees q true ls rs ks ms b k
-          → EmitsJoin (emission q (dropping rule) (placed ls rs)) b i k
+          → EmitsJoin (emission (sameKey q) (dropping rule) (placed ls rs)) b i k
       arithmetic-emits b i k w hb hk s = go (hasReadings b) refl
         where
           here : Placed
           here = record { place = record { side = many; number = i }; series = b }
 
           seen : List Placed
-          seen = keep (λ x. hasReadings (x .series)) (ofKey q (b .labels) (placed ls rs))
+          seen = keep (λ x. hasReadings (x .series)) (ofKey (sameKey q) (b .labels) (placed ls rs))
 
-          go : (t : Bool) → hasReadings b ≡ t → EmitsJoin (emission q (dropping rule) (placed ls rs)) b i k
+          go : (t : Bool) → hasReadings b ≡ t → EmitsJoin (emission (sameKey q) (dropping rule) (placed ls rs)) b i k
           go true h =
               let part : eqb k dropped ≡ false = not-true (eqb k dropped) (sym (sym h ∙ s .takes)) in
               record {
-                clashes = clash-produced (here .place) (dropping rule here (ofKey q (b .labels) (placed ls rs)))
+                clashes = clash-produced (here .place)
+                    (dropping rule here (ofKey (sameKey q) (b .labels) (placed ls rs)))
                     ∙ rw h (taking-clash b i k seen (sees b k s h) ∙ rw part);
-                answers = λ n. good-produced (here .place) (dropping rule here (ofKey q (b .labels) (placed ls rs)))
+                answers = λ n. good-produced (here .place)
+                    (dropping rule here (ofKey (sameKey q) (b .labels) (placed ls rs)))
                     ∙ rw h (taking-good b i k seen w hb hk (sees b k s h) (rw part at n) ∙ rw part);
               }
           go false h =
@@ -637,7 +640,7 @@ module _ (q : Query) (many : Side) (sides : Sides) (bs os : List Series) (few : 
               record { clashes = rw (h, out); answers = λ n. rw (h, out) }
 
       each-arithmetic : (i : ℕ) (cs : List Series) (xs : List ℕ) → From noSeries bs cs i → From 0 mk xs i → EachSees (Sees q true ls rs ks ms) cs xs
-          → EachJoin (emission q (dropping rule) (placed ls rs)) i cs xs
+          → EachJoin (emission (sameKey q) (dropping rule) (placed ls rs)) i cs xs
       unfolding EachJoin
       each-arithmetic i [] [] f fk e = tt
       each-arithmetic i [] (k ∷ xs) f fk e = e
@@ -727,7 +730,7 @@ module _ (q : Query) (sides : Sides) (ls rs : List Series) (lefts : StandsFor (s
 
   -- what a rule concludes over all series of both sides
   abbrev over : Rule → Outcome
-  over rule = concluded labelRoom room (sides .shape) (settle (events q rule (placed ls rs)))
+  over rule = concluded labelRoom room (sides .shape) (settle (events (sameKey q) rule (placed ls rs)))
 
   module _ (few : length (sides .right .keys) ≤ 512) (hj : q .join ≡ group left) where
     pub comparison-joins-left : (c : Comparison) → kindOf (q .operator) ≡ comparison c → Numbers q false ls rs ks ms

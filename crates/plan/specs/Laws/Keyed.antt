@@ -103,31 +103,34 @@ pub record Numbers (q : Query) (drops : Bool) (ls rs : List Series) (ks ms : Lis
 module _ (q : Query) (ls rs : List Series) (ks ms : List ℕ) (b : Series) (k : ℕ) where
   -- arithmetic drops first, and a rule then sees what is left
   module _ (s : Sees q true ls rs ks ms b k) (part : hasReadings b ≡ true) where
-    dropped-seen : keep (λ x. hasReadings (x .series)) (ofKey q (b .labels) (placed ls rs)) ≡ keep (λ x. seenBy q true b (x .series)) (placed ls rs)
+    dropped-seen : keep (λ x. hasReadings (x .series)) (ofKey (sameKey q) (b .labels) (placed ls rs))
+        ≡ keep (λ x. seenBy q true b (x .series)) (placed ls rs)
     dropped-seen = keep-both (λ x. hasReadings (x .series)) (λ x. sameKey q (b .labels) (x .series .labels)) (placed ls rs)
 
-    pub kept-lefts : ofSide left (keep (λ x. hasReadings (x .series)) (ofKey q (b .labels) (placed ls rs))) ≡ keyed left k 0 ks ls
+    pub kept-lefts : ofSide left (keep (λ x. hasReadings (x .series)) (ofKey (sameKey q) (b .labels) (placed ls rs)))
+        ≡ keyed left k 0 ks ls
     kept-lefts =
         ap (ofSide left) dropped-seen ∙ lefts-of ls rs (λ x. seenBy q true b (x .series))
         ∙ told-keyed left (seenBy q true b) k 0 (λ i. i) ks ls (λ j. omega arith) (s .lefts part)
 
-    pub kept-rights : ofSide right (keep (λ x. hasReadings (x .series)) (ofKey q (b .labels) (placed ls rs))) ≡ keyed right k 0 ms rs
+    pub kept-rights : ofSide right (keep (λ x. hasReadings (x .series))
+        (ofKey (sameKey q) (b .labels) (placed ls rs))) ≡ keyed right k 0 ms rs
     kept-rights =
         ap (ofSide right) dropped-seen ∙ rights-of ls rs (λ x. seenBy q true b (x .series))
         ∙ told-keyed right (seenBy q true b) k 0 (λ i. i) ms rs (λ j. omega arith) (s .rights part)
 
   -- the others see all
   module _ (s : Sees q false ls rs ks ms b k) where
-    all-seen : ofKey q (b .labels) (placed ls rs) ≡ keep (λ x. seenBy q false b (x .series)) (placed ls rs)
+    all-seen : ofKey (sameKey q) (b .labels) (placed ls rs) ≡ keep (λ x. seenBy q false b (x .series)) (placed ls rs)
     all-seen = keep-cong (λ x. sameKey q (b .labels) (x .series .labels)) (λ x. seenBy q false b (x .series)) (placed ls rs)
         (All-each (λ x. sym (and-true (sameKey q (b .labels) (x .series .labels)))) (placed ls rs))
 
-    pub all-lefts : ofSide left (ofKey q (b .labels) (placed ls rs)) ≡ keyed left k 0 ks ls
+    pub all-lefts : ofSide left (ofKey (sameKey q) (b .labels) (placed ls rs)) ≡ keyed left k 0 ks ls
     all-lefts =
         ap (ofSide left) all-seen ∙ lefts-of ls rs (λ x. seenBy q false b (x .series))
         ∙ told-keyed left (seenBy q false b) k 0 (λ i. i) ks ls (λ j. omega arith) (s .lefts refl)
 
-    pub all-rights : ofSide right (ofKey q (b .labels) (placed ls rs)) ≡ keyed right k 0 ms rs
+    pub all-rights : ofSide right (ofKey (sameKey q) (b .labels) (placed ls rs)) ≡ keyed right k 0 ms rs
     all-rights =
         ap (ofSide right) all-seen ∙ rights-of ls rs (λ x. seenBy q false b (x .series))
         ∙ told-keyed right (seenBy q false b) k 0 (λ i. i) ms rs (λ j. omega arith) (s .rights refl)

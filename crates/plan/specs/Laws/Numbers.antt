@@ -49,14 +49,14 @@ key-sym q a b =
 
 -- from places to lists
 
-told-by : (f : Series → Bool) (k : ℕ) (xs : List ℕ) (bs : List Series) → length xs ≡ length bs
+pub told-by : (f : Series → Bool) (k : ℕ) (xs : List ℕ) (bs : List Series) → length xs ≡ length bs
     → ((j : ℕ) → j < length bs → f (getD bs j noSeries) ≡ eqb (getD xs j 0) k) → ToldBy f k xs bs
 told-by f k [] [] e h = tt
 told-by f k [] (b ∷ bs) e h = absurd (omega (arith, e))
 told-by f k (x ∷ xs) [] e h = absurd (omega (arith, e))
 told-by f k (x ∷ xs) (b ∷ bs) e h = (h 0 (omega arith), told-by f k xs bs (omega (arith, e)) (λ j w. h (suc j) (omega (arith, w))))
 
-each-by : (P : Series → ℕ → Type 0) (bs : List Series) (xs : List ℕ) → length xs ≡ length bs
+pub each-by : (P : Series → ℕ → Type 0) (bs : List Series) (xs : List ℕ) → length xs ≡ length bs
     → ((j : ℕ) → j < length bs → P (getD bs j noSeries) (getD xs j 0)) → EachSees P bs xs
 each-by P [] [] e h = tt
 each-by P [] (x ∷ xs) e h = absurd (omega (arith, e))

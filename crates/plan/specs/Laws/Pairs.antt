@@ -13,7 +13,7 @@ use Rattle.model.specs.Lists.{cases, keep, gather}
 use Rattle.model.specs.Laws.Lists.{gather-append}
 use Rattle.model.specs.Laws.Booleans.{not-true, not-false}
 use Rattle.model.specs.Labels.{Labels}
-use Rattle.model.specs.Query.{Query, oneToOne, Side, left, right}
+use Rattle.model.specs.Query.{Query, sameKey, oneToOne, Side, left, right}
 use Rattle.model.specs.Vector.{Series, Shape}
 use Rattle.semantics.specs.Places.{Place, Placed, Rank, numbered, placed, samePlace}
 use Rattle.semantics.specs.Events.{Duplicate, Event, Ranked, mark, Rule, ofKey, producedBy, emission, events, settle}
@@ -244,47 +244,53 @@ module _ (q : Query) (sides : Sides) (ls rs : List Series)
   abbrev compares : Rule
   compares = plain (Rules.oneToOne allowed (paired q))
 
-  comparison-emits : (b : Series) (i k : ℕ) → i < length ks → Sees q false ls rs ks ms b k → EmitsPair (emission q compares (placed ls rs)) b i k
+  comparison-emits : (b : Series) (i k : ℕ) → i < length ks → Sees q false ls rs ks ms b k
+      → EmitsPair (emission (sameKey q) compares (placed ls rs)) b i k
   comparison-emits b i k within s =
       let part : eqb k dropped ≡ false = not-true (eqb k dropped) (sym (s .takes)) in
-      let seen = ofKey q (b .labels) (placed ls rs) in
+      let seen = ofKey (sameKey q) (b .labels) (placed ls rs) in
       let hx = all-lefts q ls rs ks ms b k s in
       let hz = all-rights q ls rs ks ms b k s in
       record {
         clashes = clash-produced (record { side = left; number = i })
-            (compares (record { place = record { side = left; number = i }; series = b }) (ofKey q (b .labels) (placed ls rs)))
+            (compares (record { place = record { side = left; number = i }; series = b })
+            (ofKey (sameKey q) (b .labels) (placed ls rs)))
             ∙ place-clash b i k within part (ofSide left seen) (ofSide right seen) (sym hx) (sym hz);
         answers = λ n. good-produced (record { side = left; number = i })
-            (compares (record { place = record { side = left; number = i }; series = b }) (ofKey q (b .labels) (placed ls rs)))
+            (compares (record { place = record { side = left; number = i }; series = b })
+            (ofKey (sameKey q) (b .labels) (placed ls rs)))
             ∙ place-good b i k within part (ofSide left seen) (ofSide right seen) (sym hx) (sym hz) n;
       }
 
   each-comparison : (i : ℕ) (bs : List Series) (xs : List ℕ) → i + length xs ≡ length ks → EachSees (Sees q false ls rs ks ms) bs xs
-      → EachPair (emission q compares (placed ls rs)) i bs xs
+      → EachPair (emission (sameKey q) compares (placed ls rs)) i bs xs
   each-comparison i [] [] h e = tt
   each-comparison i [] (k ∷ xs) h e = e
   each-comparison i (b ∷ bs) [] h e = e
   each-comparison i (b ∷ bs) (k ∷ xs) h e = (comparison-emits b i k (omega (arith, h)) (e .0), each-comparison (suc i) bs xs (omega (arith, h)) (e .1))
 
-  arithmetic-emits : (b : Series) (i k : ℕ) → i < length ks → Sees q true ls rs ks ms b k → EmitsPair (emission q (dropping compares) (placed ls rs)) b i k
+  arithmetic-emits : (b : Series) (i k : ℕ) → i < length ks → Sees q true ls rs ks ms b k
+      → EmitsPair (emission (sameKey q) (dropping compares) (placed ls rs)) b i k
   arithmetic-emits b i k within s = go (hasReadings b) refl
     where
       seen : List Placed
-      seen = keep (λ x. hasReadings (x .series)) (ofKey q (b .labels) (placed ls rs))
+      seen = keep (λ x. hasReadings (x .series)) (ofKey (sameKey q) (b .labels) (placed ls rs))
 
       part-of : (t : Bool) → hasReadings b ≡ t → t ≡ not (eqb k dropped)
       part-of t h = sym h ∙ s .takes
 
-      go : (t : Bool) → hasReadings b ≡ t → EmitsPair (emission q (dropping compares) (placed ls rs)) b i k
+      go : (t : Bool) → hasReadings b ≡ t → EmitsPair (emission (sameKey q) (dropping compares) (placed ls rs)) b i k
       go true h =
           let part : eqb k dropped ≡ false = not-true (eqb k dropped) (sym (part-of true h)) in
           record {
             clashes = clash-produced (record { side = left; number = i })
-                (dropping compares (record { place = record { side = left; number = i }; series = b }) (ofKey q (b .labels) (placed ls rs)))
+                (dropping compares (record { place = record { side = left; number = i }; series = b })
+                (ofKey (sameKey q) (b .labels) (placed ls rs)))
                 ∙ rw h (place-clash b i k within part (ofSide left seen) (ofSide right seen) (sym (kept-lefts q ls rs ks ms b k s h))
                 (sym (kept-rights q ls rs ks ms b k s h)));
             answers = λ n. good-produced (record { side = left; number = i })
-                (dropping compares (record { place = record { side = left; number = i }; series = b }) (ofKey q (b .labels) (placed ls rs)))
+                (dropping compares (record { place = record { side = left; number = i }; series = b })
+                (ofKey (sameKey q) (b .labels) (placed ls rs)))
                 ∙ rw h (place-good b i k within part (ofSide left seen) (ofSide right seen) (sym (kept-lefts q ls rs ks ms b k s h))
                 (sym (kept-rights q ls rs ks ms b k s h)) n);
           }
@@ -293,7 +299,7 @@ module _ (q : Query) (sides : Sides) (ls rs : List Series)
           record { clashes = rw (h, out); answers = λ n. rw (h, out) }
 
   each-arithmetic : (i : ℕ) (bs : List Series) (xs : List ℕ) → i + length xs ≡ length ks → EachSees (Sees q true ls rs ks ms) bs xs
-      → EachPair (emission q (dropping compares) (placed ls rs)) i bs xs
+      → EachPair (emission (sameKey q) (dropping compares) (placed ls rs)) i bs xs
   each-arithmetic i [] [] h e = tt
   each-arithmetic i [] (k ∷ xs) h e = e
   each-arithmetic i (b ∷ bs) [] h e = e
@@ -313,11 +319,12 @@ module _ (q : Query) (sides : Sides) (ls rs : List Series)
       → producedBy (record { side = right; number = n }) (compares (record { place = record { side = right; number = n }; series = b }) xs) ≡ []
   silent-comparison n b xs = rw (never-first n b xs)
 
-  silent-arithmetic : (n : ℕ) (b : Series) → emission q (dropping compares) (placed ls rs)
+  silent-arithmetic : (n : ℕ) (b : Series) → emission (sameKey q) (dropping compares) (placed ls rs)
       (record { place = record { side = right; number = n }; series = b }) ≡ []
   silent-arithmetic n b =
       cases (hasReadings b)
-      (λ e. rw e (silent-comparison n b (keep (λ x. hasReadings (x .series)) (ofKey q (b .labels) (placed ls rs)))))
+      (λ e. rw e (silent-comparison n b (keep (λ x. hasReadings (x .series))
+      (ofKey (sameKey q) (b .labels) (placed ls rs)))))
       (λ e. rw e)
 
   -- the law: a one-to-one query concludes by its pairs
@@ -325,15 +332,18 @@ module _ (q : Query) (sides : Sides) (ls rs : List Series)
       → concluded labelRoom room (sides .shape) (verdict q ls rs) ≡ pairsOutcome q labelRoom room sides
   unfolding verdict
   comparison-concludes a b c hk hj n =
-      ap (λ o. concluded a b (sides .shape) (settle (events q (ruleOf q o (look o ls rs)) (placed ls rs)))) hk
-      ∙ ap (λ j. concluded a b (sides .shape) (settle (events q (matchedRule q j) (placed ls rs)))) hj
-      ∙ call-concludes (emission q compares (placed ls rs)) (λ m c. silent-comparison m c (ofKey q (c .labels) (placed ls rs))) a b (sides .shape)
+      ap (λ o. concluded a b (sides .shape) (settle (events (sameKey q) (ruleOf q o (look o ls rs)) (placed ls rs)))) hk
+      ∙ ap (λ j. concluded a b (sides .shape) (settle (events (sameKey q) (matchedRule q j) (placed ls rs)))) hj
+      ∙ call-concludes (emission (sameKey q) compares (placed ls rs))
+      (λ m c. silent-comparison m c (ofKey (sameKey q) (c .labels) (placed ls rs))) a b (sides .shape)
       (each-comparison 0 ls ks (omega arith) (n .ofLefts))
 
   pub arithmetic-concludes : (labelRoom room : ℕ) (c : Arithmetic) → kindOf (q .operator) ≡ arithmetic c → q .join ≡ oneToOne → Numbers q true ls rs ks ms
       → concluded labelRoom room (sides .shape) (verdict q ls rs) ≡ pairsOutcome q labelRoom room sides
   unfolding verdict
   arithmetic-concludes a b c hk hj n =
-      ap (λ o. concluded a b (sides .shape) (settle (events q (ruleOf q o (look o ls rs)) (placed ls rs)))) hk
-      ∙ ap (λ j. concluded a b (sides .shape) (settle (events q (dropping (matchedRule q j)) (placed ls rs)))) hj
-      ∙ call-concludes (emission q (dropping compares) (placed ls rs)) silent-arithmetic a b (sides .shape) (each-arithmetic 0 ls ks (omega arith) (n .ofLefts))
+      ap (λ o. concluded a b (sides .shape) (settle (events (sameKey q) (ruleOf q o (look o ls rs)) (placed ls rs)))) hk
+      ∙ ap (λ j. concluded a b (sides .shape) (settle
+      (events (sameKey q) (dropping (matchedRule q j)) (placed ls rs)))) hj
+      ∙ call-concludes (emission (sameKey q) (dropping compares) (placed ls rs)) silent-arithmetic a b (sides .shape)
+      (each-arithmetic 0 ls ks (omega arith) (n .ofLefts))

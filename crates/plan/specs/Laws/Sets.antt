@@ -16,7 +16,7 @@ use Rattle.model.specs.Laws.Booleans.{never}
 use Rattle.model.specs.Laws.Lists.{gather-append, map-append}
 use Rattle.model.specs.Reading.{missing, noReading}
 use Rattle.model.specs.Row.{onlyMissing}
-use Rattle.model.specs.Query.{Query, Side, left, right}
+use Rattle.model.specs.Query.{Query, sameKey, Side, left, right}
 use Rattle.model.specs.Labels.{Labels}
 use Rattle.model.specs.Vector.{Series, Shape}
 use Rattle.semantics.specs.Places.{Place, Placed, Rank, numbered, placed}
@@ -42,13 +42,13 @@ use Rattle.plan.specs.Laws.Common.{noSeries, labelsOfSide, getD-labels, 
 -- right series by their places in one array
 
 -- the rows of placed series stand in one array
-abbrev Stand : ℕ → List ℕ → List Placed → Type 0
+abbrev pub Stand : ℕ → List ℕ → List Placed → Type 0
 Stand p rows xs = All (λ x. rowAt p rows (x .place .number) ≡ x .series .row) xs
 
-numbersOf : List Placed → List ℕ
+unfoldable pub numbersOf : List Placed → List ℕ
 numbersOf xs = map (λ x. x .place .number) xs
 
-keyed-stand : (p : ℕ) (rows : List ℕ) (side : Side) (k i : ℕ) (ks : List ℕ) (bs : List Series) → RowsAt p rows i bs → Stand p rows (keyed side k i ks bs)
+pub keyed-stand : (p : ℕ) (rows : List ℕ) (side : Side) (k i : ℕ) (ks : List ℕ) (bs : List Series) → RowsAt p rows i bs → Stand p rows (keyed side k i ks bs)
 unfolding keyed
 keyed-stand p rows side k i [] bs r = tt
 keyed-stand p rows side k i (x ∷ ks) [] r = tt
@@ -57,7 +57,7 @@ keyed-stand p rows side k i (x ∷ ks) (b ∷ bs) r =
     (λ e. rw e (r .0, keyed-stand p rows side k (suc i) ks bs (r .1)))
     (λ e. rw e (keyed-stand p rows side k (suc i) ks bs (r .1)))
 
-keyed-places : (side : Side) (k i : ℕ) (ks : List ℕ) (bs : List Series) → length ks ≡ length bs → numbersOf (keyed side k i ks bs) ≡ placesOf k i ks
+pub keyed-places : (side : Side) (k i : ℕ) (ks : List ℕ) (bs : List Series) → length ks ≡ length bs → numbersOf (keyed side k i ks bs) ≡ placesOf k i ks
 unfolding keyed placesOf numbersOf
 keyed-places side k i [] bs e = refl
 keyed-places side k i (x ∷ ks) [] e = absurd (omega (arith, e))
@@ -66,7 +66,7 @@ keyed-places side k i (x ∷ ks) (b ∷ bs) e =
     (λ f. rw (f, keyed-places side k (suc i) ks bs (omega (arith, e))))
     (λ f. rw (f, keyed-places side k (suc i) ks bs (omega (arith, e))))
 
-reading-at : (p : ℕ) (rows : List ℕ) (j i : ℕ) → i < p → getD (rowAt p rows j) i noReading ≡ getD rows (j * p + i) noReading
+pub reading-at : (p : ℕ) (rows : List ℕ) (j i : ℕ) → i < p → getD (rowAt p rows j) i noReading ≡ getD rows (j * p + i) noReading
 reading-at p rows j i h = rw (getD-take, getD-drop)
 
 -- what the definitions' search finds, by the number of its place
@@ -125,10 +125,10 @@ optional-clash r none = refl
 optional-clash r (some c) = refl
 
 -- a place of a side, and a series there
-abbrev on : Side → ℕ → Place
+abbrev pub on : Side → ℕ → Place
 on side i = record { side = side; number = i }
 
-abbrev at : Side → ℕ → Series → Placed
+abbrev pub at : Side → ℕ → Series → Placed
 at side i b = record { place = on side i; series = b }
 
 -- a left series as it is in the answer, where it is, by the right places that it meets
@@ -165,7 +165,7 @@ pub data FallsTo : Bool → Option Series → List Series → Type 0 where
   nowhere : (rs : List Series) → FallsTo false none rs
   onlyOne : (r : Series) → FallsTo true (some r) (r ∷ [])
 
-width-at : (p : ℕ) (bs : List Series) → All (λ b. length (b .row) ≡ p) bs → (j : ℕ) → j < length bs
+pub width-at : (p : ℕ) (bs : List Series) → All (λ b. length (b .row) ≡ p) bs → (j : ℕ) → j < length bs
     → length (getD bs j noSeries .row) ≡ p
 width-at p [] w j h = absurd (omega (arith, h))
 width-at p (b ∷ bs) w zero h = w .0
@@ -264,35 +264,38 @@ module _ (q : Query) (rule : SetRule) (sides : Sides) (ls rs : List Series)
   obeys = setRuleBy rule seen
 
   abbrev emits : Placed → List (Ranked Rank Event)
-  emits = emission q obeys (placed ls rs)
+  emits = emission (sameKey q) obeys (placed ls rs)
 
   emits-left : (b : Series) (i k : ℕ) → length (b .row) ≡ p → Sees q false ls rs ks ms b k
       → goodSeries (emits (at left i b))
       ≡ leftKept rule p (sides .right .rows) (metPlaces falls ms k) b
   emits-left b i k w s =
-      good-produced (on left i) (obeys (at left i b) (ofKey q (b .labels) (placed ls rs)))
-      ∙ left-series (on left i) b k w (ofSide right (ofKey q (b .labels) (placed ls rs))) (sym (all-rights q ls rs ks ms b k s))
+      good-produced (on left i) (obeys (at left i b) (ofKey (sameKey q) (b .labels) (placed ls rs)))
+      ∙ left-series (on left i) b k w (ofSide right (ofKey (sameKey q) (b .labels) (placed ls rs)))
+      (sym (all-rights q ls rs ks ms b k s))
 
   clash-left : (b : Series) (i : ℕ) → firstClash (emits (at left i b)) ≡ none
   clash-left b i =
-      clash-produced (on left i) (obeys (at left i b) (ofKey q (b .labels) (placed ls rs)))
-      ∙ left-clash (on left i) b (ofSide right (ofKey q (b .labels) (placed ls rs)))
+      clash-produced (on left i) (obeys (at left i b) (ofKey (sameKey q) (b .labels) (placed ls rs)))
+      ∙ left-clash (on left i) b (ofSide right (ofKey (sameKey q) (b .labels) (placed ls rs)))
 
   clash-right : (b : Series) (i : ℕ) → firstClash (emits (at right i b)) ≡ none
   clash-right b i =
-      clash-produced (on right i) (obeys (at right i b) (ofKey q (b .labels) (placed ls rs)))
-      ∙ right-clash (on right i) b (ofSide left (ofKey q (b .labels) (placed ls rs))) adding
+      clash-produced (on right i) (obeys (at right i b) (ofKey (sameKey q) (b .labels) (placed ls rs)))
+      ∙ right-clash (on right i) b (ofSide left (ofKey (sameKey q) (b .labels) (placed ls rs))) adding
 
   emits-right : (b : Series) (j k : ℕ) → Sees q false ls rs ks ms b k
       → goodSeries (emits (at right j b)) ≡ cond adding (cond (eqb (firstOf ks k) (length ks)) (b ∷ []) []) []
   emits-right b j k s =
-      good-produced (on right j) (obeys (at right j b) (ofKey q (b .labels) (placed ls rs)))
+      good-produced (on right j) (obeys (at right j b) (ofKey (sameKey q) (b .labels) (placed ls rs)))
       ∙ go adding
     where
       go : (t : Bool)
-          → goodSeries {R = Place} (mark (on right j) (cond t (rightResult b (ofSide left (ofKey q (b .labels) (placed ls rs)))) []))
+          → goodSeries {R = Place} (mark (on right j)
+          (cond t (rightResult b (ofSide left (ofKey (sameKey q) (b .labels) (placed ls rs)))) []))
           ≡ cond t (cond (eqb (firstOf ks k) (length ks)) (b ∷ []) []) []
-      go true = right-series (on right j) b k (ofSide left (ofKey q (b .labels) (placed ls rs))) (sym (all-lefts q ls rs ks ms b k s))
+      go true = right-series (on right j) b k (ofSide left (ofKey (sameKey q) (b .labels) (placed ls rs)))
+          (sym (all-lefts q ls rs ks ms b k s))
       go false = refl
 
   lefts-series : (i : ℕ) (g : ℕ → ℕ) (bs : List Series) (xs : List ℕ) → ((j : ℕ) → g j ≡ i + j) → From noSeries ls bs i → From 0 ks xs i
@@ -350,20 +353,21 @@ module _ (q : Query) (rule : SetRule) (sides : Sides) (ls rs : List Series)
   none-clash side h g (b ∷ bs) = rw (h b (g zero), none-clash side h (λ j. g (suc j)) bs)
 
   pub sets-conclude : (labelRoom room : ℕ) (shape : Shape) → Numbers q false ls rs ks ms
-      → concluded labelRoom room shape (settle (events q obeys (placed ls rs)))
+      → concluded labelRoom room shape (settle (events (sameKey q) obeys (placed ls rs)))
       ≡ conclude labelRoom room shape none (map (setSeries work sides) (setRows work sides))
   sets-conclude a b shape n =
-      let clashless : firstClash (events q obeys (placed ls rs)) ≡ none =
+      let clashless : firstClash (events (sameKey q) obeys (placed ls rs)) ≡ none =
       clash-gather emits (placed ls rs) ∙ first-append (λ x. firstClash (emits x)) (numbered left (λ i. i) ls) (numbered right (λ i. i) rs)
       ∙ rw (none-clash left clash-left (λ i. i) ls, none-clash right clash-right (λ i. i) rs) in
-      let series : goodSeries (events q obeys (placed ls rs)) ≡ map (setSeries work sides) (setRows work sides) =
+      let series : goodSeries (events (sameKey q) obeys (placed ls rs))
+      ≡ map (setSeries work sides) (setRows work sides) =
       good-gather emits (placed ls rs) ∙ gather-append (λ x. goodSeries (emits x)) (numbered left (λ i. i) ls) (numbered right (λ i. i) rs)
       ∙ rw (
         lefts-series 0 (λ i. i) ls ks (λ j. omega arith) (from-all noSeries ls) (from-all 0 ks) (n .ofLefts),
         rights-series 0 (λ i. i) rs ms (λ j. omega arith) (from-all noSeries rs) (from-all 0 ms) (n .ofRights),
       )
       (sym (map-append (setSeries work sides) (leftsFrom work sides 0 ks) (cond adding (rightsFrom ks 0 ms) []))) in
-      settled-concludes a b shape (events q obeys (placed ls rs)) ∙ rw (clashless, series)
+      settled-concludes a b shape (events (sameKey q) obeys (placed ls rs)) ∙ rw (clashless, series)
 
 -- the law, for the operators that do not fall back and for those that do
 
@@ -387,7 +391,8 @@ module _ (q : Query) (rule : SetRule) (sides : Sides) (ls rs : List Series)
       → concluded labelRoom room (sides .shape) (verdict q ls rs) ≡ setOutcome (setWork rule false true) labelRoom room sides
   unfolding verdict
   set-concludes hk =
-      ap (λ o. concluded labelRoom room (sides .shape) (settle (events q (ruleOf q o (look o ls rs)) (placed ls rs)))) hk
+      ap (λ o. concluded labelRoom room (sides .shape)
+      (settle (events (sameKey q) (ruleOf q o (look o ls rs)) (placed ls rs)))) hk
       ∙ sets-conclude q rule sides ls rs lefts rights false (look (setRule rule) ls rs) (nowhere rs) labelRoom room (sides .shape) n
 
   fallback-concludes : kindOf (q .operator) ≡ fallback rule
@@ -395,7 +400,8 @@ module _ (q : Query) (rule : SetRule) (sides : Sides) (ls rs : List Series)
       ≡ setOutcome (setWork rule (isGiven (scalarSide rs)) (isEmpty ls)) labelRoom room sides
   unfolding verdict
   fallback-concludes hk =
-      ap (λ o. concluded labelRoom room (sides .shape) (settle (events q (ruleOf q o (look o ls rs)) (placed ls rs)))) hk
+      ap (λ o. concluded labelRoom room (sides .shape)
+      (settle (events (sameKey q) (ruleOf q o (look o ls rs)) (placed ls rs)))) hk
       ∙ sets-conclude q rule sides ls rs lefts rights (isGiven (scalarSide rs)) (look (fallback rule) ls rs) (scalar-falls rs)
       labelRoom room (sides .shape) n
 

@@ -21,23 +21,16 @@ use Rattle.side_parts.specs.SideLaws.{row-width}
 use Rattle.end_codes.specs.Codes.{codes, bothCode, sideFirst}
 use Rattle.key_ends.specs.Ends.{SideEnds, side-first, ends-at}
 use Rattle.index_lists.specs.Places.{NotedIf, NotedAll}
-use Rattle.index_lists.proofs.Noting.{Noting, noting-starts, noting-turn, noting-length, noting-ends}
+use Rattle.index_lists.proofs.Noting.{noted-most, Noting, noting-starts, noting-turn, noting-length, noting-ends}
 use Rattle.set_series.proofs.Rows.{row-in}
 use Rattle.set_plan.specs.Codes.{fallen, metCode, setCode, setCodes}
 use Rattle.set_plan.specs.left_series.Answering.{metBy, Answered}
 use Rattle.set_plan.specs.set_listing.Lists.{SetHeld, metOver, leftCodes, rightCodes, LeftsListed}
 use Rattle.set_plan.proofs.Coding.{met-small, met-code}
 
-noted-most : (b : Bool) (x n i : ℕ) (list later : List ℕ) (r : ℕ) → n ≤ i → NotedIf b x n list later r → r ≤ i + 1
-noted-most true x n i list later r h p = omega (arith, p .count)
-noted-most false x n i list later r h p = omega (arith, p .count)
-
 map-if : (f : ℕ → ℕ) (b : Bool) (x : ℕ) (xs : List ℕ) → map f (cond b (x ∷ xs) xs) ≡ cond b (f x ∷ map f xs) (map f xs)
 map-if f true x xs = refl
 map-if f false x xs = refl
-
-pub ends-room : (keys asked ends : List ℕ) → SideEnds keys asked ends → (i : ℕ) → i < length asked → i < length ends
-ends-room keys asked ends e i h = omega (arith, e .room)
 
 -- what is met is listed within a part
 

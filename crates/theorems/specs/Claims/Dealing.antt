@@ -10,7 +10,7 @@ use Rattle.model.specs.Lists.{keep, isEmpty, All}
 use Rattle.model.specs.Query.{Query, sameKey, Side, left, right}
 use Rattle.model.specs.Vector.{Series}
 use Rattle.semantics.specs.Places.{Place, Placed, placed, Rank, rankBefore}
-use Rattle.semantics.specs.Events.{Duplicate, Ranked, Verdict, answer, duplicate}
+use Rattle.semantics.specs.Events.{KeyTest, Duplicate, Ranked, Verdict, answer, duplicate}
 use Rattle.semantics.specs.Binop.{scalarSide}
 
 -- 01: Each series of both sides goes into exactly one of two piles: the first where this is true.
@@ -53,8 +53,9 @@ wholePlaces deal ls rs left = wholeNumber (λ i. deal (record { side = left; num
 wholePlaces deal ls rs right = wholeNumber (λ i. deal (record { side = right; number = i })) rs
 
 -- 01: no key under the query's matching is found in both piles, left or right
-abbrev pub Apart : Query → Deal → List Placed → Type 0
-Apart q deal xs = All (λ x. All (λ y. sameKey q (x .series .labels) (y .series .labels) ≡ true → deal (y .place) ≡ deal (x .place)) xs) xs
+abbrev pub Apart : KeyTest → Deal → List Placed → Type 0
+Apart same deal xs =
+    All (λ x. All (λ y. same (x .series .labels) (y .series .labels) ≡ true → deal (y .place) ≡ deal (x .place)) xs) xs
 
 abbrev pub isSome : {A : Type 0} → Option A → Bool
 isSome none = false
@@ -86,7 +87,7 @@ PileFallsAlike q deal ls rs = FallsAlikeIf q (kindOf (q .operator)) (pile deal l
 
 -- a dealing as the demand wants it
 pub record Dealt (q : Query) (deal : Deal) (ls rs : List Series) : Type 0 where
-  pub apart : Apart q deal (placed ls rs)
+  pub apart : Apart (sameKey q) deal (placed ls rs)
   pub first : PileFallsAlike q deal ls rs
   pub second : PileFallsAlike q (secondPile deal) ls rs
 

@@ -89,7 +89,7 @@ joinedSeries q ls rs = afterDrop (kindOf (q .operator)) (placed ls rs)
 
 -- the one-side series of a many-side series' key
 abbrev pub matchesOf : Query → Side → Placed → List Placed → List Placed
-matchesOf q many s xs = ofSide (other many) (ofKey q (s .series .labels) xs)
+matchesOf q many s xs = ofSide (other many) (ofKey (sameKey q) (s .series .labels) xs)
 
 -- a group join: arithmetic or a comparison
 pub record IsJoin (q : Query) (many : Side) : Type 0 where

@@ -23,7 +23,7 @@ seriesOf xs = map (λ x. x .series) xs
 module _ (q : Query) where
   -- the right series of a key
   abbrev pub rights : Series → List Placed → List Series
-  rights b xs = seriesOf (ofSide right (ofKey q (b .labels) xs))
+  rights b xs = seriesOf (ofSide right (ofKey (sameKey q) (b .labels) xs))
 
   rights-left : (b : Series) (g : ℕ → ℕ) (ls : List Series) → rights b (numbered left g ls) ≡ []
   rights-left b g [] = refl
@@ -45,7 +45,7 @@ module _ (q : Query) where
   rights-moved b ρ xs = simp (keep-map, map-map)
 
   -- a pile has all the right series of its series' keys
-  key-whole : (deal : Deal) (ls rs : List Series) → Apart q deal (placed ls rs)
+  key-whole : (deal : Deal) (ls rs : List Series) → Apart (sameKey q) deal (placed ls rs)
       → All (λ x. deal (x .place) ≡ true → sameKeyOf q (x .series) (pile deal right rs) ≡ sameKeyOf q (x .series) rs) (placed ls rs)
   key-whole deal ls rs a =
       All-map
@@ -109,7 +109,7 @@ if-any : (Q : Placed → Type 0) (s : Side) (g : ℕ → ℕ) (bs : List Series)
 if-any Q s g [] h = tt
 if-any Q s g (b ∷ bs) h = All-numbered (λ b. Unit {0}) Q s (λ n b u. h refl n b) g (b ∷ bs) (All-each (λ b. tt) (b ∷ bs))
 
-module _ (q : Query) (k : SetRule) (deal : Deal) (ls rs : List Series) (apart : Apart q deal (placed ls rs))
+module _ (q : Query) (k : SetRule) (deal : Deal) (ls rs : List Series) (apart : Apart (sameKey q) deal (placed ls rs))
     (alike : FallsAlike q k (pile deal left ls) (pile deal right rs) ls rs) where
   abbrev pl : List Series
   pl = pile deal left ls
@@ -118,8 +118,8 @@ module _ (q : Query) (k : SetRule) (deal : Deal) (ls rs : List Series) (apart : 
   pr = pile deal right rs
 
   abbrev SameEmission : Seen → Placed → Type 0
-  SameEmission c s = emission q (ruleOf q (fallback k) c) (pilePlaced deal ls rs) s
-      ≡ emission q (ruleOf q (fallback k) (look (fallback k) ls rs)) (pilePlaced deal ls rs) s
+  SameEmission c s = emission (sameKey q) (ruleOf q (fallback k) c) (pilePlaced deal ls rs) s
+      ≡ emission (sameKey q) (ruleOf q (fallback k) (look (fallback k) ls rs)) (pilePlaced deal ls rs) s
 
   keys : All (λ b. sameKeyOf q b pr ≡ sameKeyOf q b rs) pl
   keys = All-picked _ deal left (λ i. i) ls (All-front _ (numbered left (λ i. i) ls) _ (key-whole q deal ls rs apart))
@@ -135,7 +135,8 @@ module _ (q : Query) (k : SetRule) (deal : Deal) (ls rs : List Series) (apart : 
       All-numbered (λ b. (fallsBack q pr b ≡ fallsBack q rs b) × (sameKeyOf q b pr ≡ sameKeyOf q b rs)) _ left
       (λ n b h.
       ap (λ l. producedBy (record { side = left; number = n }) (mark (record { side = left; number = n }) l))
-      (left-same (unmatched k (scalarSide pr)) (unmatched k (scalarSide rs)) (met k) b (ofSide right (ofKey q (b .labels) (pilePlaced deal ls rs)))
+      (left-same (unmatched k (scalarSide pr)) (unmatched k (scalarSide rs)) (met k) b
+      (ofSide right (ofKey (sameKey q) (b .labels) (pilePlaced deal ls rs)))
       (unmatched-same b (h .0) (h .1))))
       (λ i. i) pl (All-zip (λ b x y. (x, y)) pl (alike .falls) keys)
 
@@ -144,13 +145,15 @@ module _ (q : Query) (k : SetRule) (deal : Deal) (ls rs : List Series) (apart : 
       if-any _ right (λ i. i) pr
       (λ e n b.
       ap (λ t. producedBy (record { side = right; number = n })
-      (mark (record { side = right; number = n }) (cond t (rightResult b (ofSide left (ofKey q (b .labels) (pilePlaced deal ls rs)))) [])))
+      (mark (record { side = right; number = n }) (cond t
+      (rightResult b (ofSide left (ofKey (sameKey q) (b .labels) (pilePlaced deal ls rs)))) [])))
       (adds-same k (isEmpty pl) (isEmpty ls) (λ f. empty-picked (λ i. deal (record { side = left; number = i })) ls (alike .holds f e))))
 
-  pub falls-same : run q (ruleOf q (fallback k) (look (fallback k) pl pr)) (pilePlaced deal ls rs)
-      ≡ run q (ruleOf q (fallback k) (look (fallback k) ls rs)) (pilePlaced deal ls rs)
+  pub falls-same : run (sameKey q) (ruleOf q (fallback k) (look (fallback k) pl pr)) (pilePlaced deal ls rs)
+      ≡ run (sameKey q) (ruleOf q (fallback k) (look (fallback k) ls rs)) (pilePlaced deal ls rs)
   falls-same =
       ap settle
-      (gather-cong (emission q (ruleOf q (fallback k) (look (fallback k) pl pr)) (pilePlaced deal ls rs))
-      (emission q (ruleOf q (fallback k) (look (fallback k) ls rs)) (pilePlaced deal ls rs)) (pilePlaced deal ls rs)
+      (gather-cong (emission (sameKey q) (ruleOf q (fallback k) (look (fallback k) pl pr)) (pilePlaced deal ls rs))
+      (emission (sameKey q) (ruleOf q (fallback k) (look (fallback k) ls rs)) (pilePlaced deal ls rs))
+      (pilePlaced deal ls rs)
       (All-append _ (numbered left (λ i. i) pl) (numbered right (λ i. i) pr) lefts-same rights-same))

@@ -7,11 +7,11 @@ use native.Mathlib.Omega.{arith}
 use lib.ListN.{length, getD}
 use lib.Dec.{eqb, eqb·zero-suc, eqb·suc-zero, eqb·suc-suc}
 use Rattle.model.specs.Lists.{cases, keep, gather}
-use Rattle.model.specs.Query.{Query, sameKey, Side, left, right}
+use Rattle.model.specs.Query.{Side, left, right}
 use Rattle.model.specs.Vector.{Series}
 use Rattle.model.specs.Laws.Lists.{All-map, keep-append, keep-keep, gather-keep-cong, map-append}
 use Rattle.semantics.specs.Places.{Placed, numbered, placed, alongside}
-use Rattle.semantics.specs.Events.{Rule, emission, events, run}
+use Rattle.semantics.specs.Events.{KeyTest, Rule, emission, events, run}
 use Rattle.theorems.specs.Laws.Order.{Steady, Ascending, placed-ascending, events-orderly}
 use Rattle.theorems.specs.Laws.Renumber.{movedSeries, Exact, Natural, run-moved}
 use Rattle.theorems.specs.Claims.Dealing.{Renumber, movedVerdict, Deal, secondPile, pick, pile, nextNumber, wholeNumber, wholePlaces, Apart}
@@ -81,34 +81,37 @@ pub pile-whole : (deal : Deal) (ls rs : List Series) → keep (λ x. deal (x .pl
     ≡ map (movedSeries (wholePlaces deal ls rs)) (pilePlaced deal ls rs)
 pile-whole deal ls rs = simp (keep-append, keep-numbered deal, map-append, numbered-moved)
 
-pub apart-second : (q : Query) (deal : Deal) (xs : List Placed) → Apart q deal xs → Apart q (secondPile deal) xs
-apart-second q deal xs a = All-map (λ x h. All-map (λ y g e. ap not (g e)) xs h) xs a
+pub apart-second : (same : KeyTest) (deal : Deal) (xs : List Placed) → Apart same deal xs
+    → Apart same (secondPile deal) xs
+apart-second same deal xs a = All-map (λ x h. All-map (λ y g e. ap not (g e)) xs h) xs a
 
-module _ (q : Query) (f : Rule) where
+module _ (same : KeyTest) (f : Rule) where
   -- a pile's series see the series of their key in the pile as in the whole
-  pile-events : (deal : Deal) (xs : List Placed) → Apart q deal xs
-      → events q f (keep (λ x. deal (x .place)) xs) ≡ gather (emission q f xs) (keep (λ x. deal (x .place)) xs)
+  pile-events : (deal : Deal) (xs : List Placed) → Apart same deal xs
+      → events same f (keep (λ x. deal (x .place)) xs) ≡ gather (emission same f xs) (keep (λ x. deal (x .place)) xs)
   pile-events deal xs a =
       gather-keep-cong _ _ (λ x. deal (x .place)) xs
       (All-map (λ x h e. rw
-      (keep-keep (λ s. sameKey q (x .series .labels) (s .series .labels)) (λ s. deal (s .place)) xs (All-map (λ y g r. g r ∙ e) xs h))) xs a)
+      (keep-keep (λ s. same (x .series .labels) (s .series .labels)) (λ s. deal (s .place)) xs
+      (All-map (λ y g r. g r ∙ e) xs h))) xs a)
 
-  dealt-run : Steady f → (deal : Deal) (xs : List Placed) → Ascending xs → Apart q deal xs
-      → run q f xs ≡ mergedVerdict (run q f (keep (λ x. deal (x .place)) xs)) (run q f (keep (λ x. not (deal (x .place))) xs))
+  dealt-run : Steady f → (deal : Deal) (xs : List Placed) → Ascending xs → Apart same deal xs
+      → run same f xs ≡ mergedVerdict (run same f (keep (λ x. deal (x .place)) xs))
+      (run same f (keep (λ x. not (deal (x .place))) xs))
   dealt-run st deal xs up a =
-      rw (pile-events deal xs a, pile-events (secondPile deal) xs (apart-second q deal xs a))
-      (settled (emission q f xs) (λ x. deal (x .place)) xs (events-orderly q f st xs xs up up))
+      rw (pile-events deal xs a, pile-events (secondPile deal) xs (apart-second same deal xs a))
+      (settled (emission same f xs) (λ x. deal (x .place)) xs (events-orderly same f st xs xs up up))
 
   -- the whole verdict of a rule is the piles', in whole places, merged
-  pub dealt-verdict : Natural f → Steady f → (deal : Deal) (ls rs : List Series) → Apart q deal (placed ls rs)
-      → run q f (placed ls rs)
-      ≡ mergedVerdict (movedVerdict (wholePlaces deal ls rs) (run q f (pilePlaced deal ls rs)))
-      (movedVerdict (wholePlaces (secondPile deal) ls rs) (run q f (pilePlaced (secondPile deal) ls rs)))
+  pub dealt-verdict : Natural f → Steady f → (deal : Deal) (ls rs : List Series) → Apart same deal (placed ls rs)
+      → run same f (placed ls rs)
+      ≡ mergedVerdict (movedVerdict (wholePlaces deal ls rs) (run same f (pilePlaced deal ls rs)))
+      (movedVerdict (wholePlaces (secondPile deal) ls rs) (run same f (pilePlaced (secondPile deal) ls rs)))
   dealt-verdict natural steady deal ls rs a =
       rw (
         dealt-run steady deal (placed ls rs) (placed-ascending ls rs) a,
         pile-whole deal ls rs,
         pile-whole (secondPile deal) ls rs,
-        run-moved q f natural _ (whole-exact deal ls rs) (pilePlaced deal ls rs),
-        run-moved q f natural _ (whole-exact (secondPile deal) ls rs) (pilePlaced (secondPile deal) ls rs),
+        run-moved same f natural _ (whole-exact deal ls rs) (pilePlaced deal ls rs),
+        run-moved same f natural _ (whole-exact (secondPile deal) ls rs) (pilePlaced (secondPile deal) ls rs),
       )

@@ -3,7 +3,7 @@ use mathlib.Core.Path.{_≡_, refl}
 use mathlib.Core.Bool.{_&&_}
 use mathlib.Core.List.{List}
 use Rattle.operator.specs.Kinds.{Kind, arithmetic, comparison, setRule, fallback, notCarried, kindOf}
-use Rattle.model.specs.Query.{Query, left, right, Join, oneToOne, group}
+use Rattle.model.specs.Query.{Query, sameKey, left, right, Join, oneToOne, group}
 use Rattle.model.specs.Vector.{Series}
 use Rattle.semantics.specs.Places.{placed, Rank, rankBefore}
 use Rattle.semantics.specs.Events.{Ranked, Verdict, answer, run, emission}
@@ -40,9 +40,10 @@ rule-steady q (fallback k) c = set-rule-steady (adds k && c .addsRight) (unmatch
 rule-steady q notCarried c = record { rises = λ s xs a. tt }
 
 -- a pile's verdict does not turn on whether its rule sees the pile's sides or the whole's
-rule-same : (q : Query) (k : Kind) (deal : Deal) (ls rs : List Series) → Apart q deal (placed ls rs)
+rule-same : (q : Query) (k : Kind) (deal : Deal) (ls rs : List Series) → Apart (sameKey q) deal (placed ls rs)
     → FallsAlikeIf q k (pile deal left ls) (pile deal right rs) ls rs
-    → run q (ruleOf q k (look k (pile deal left ls) (pile deal right rs))) (pilePlaced deal ls rs) ≡ run q (ruleOf q k (look k ls rs)) (pilePlaced deal ls rs)
+    → run (sameKey q) (ruleOf q k (look k (pile deal left ls) (pile deal right rs))) (pilePlaced deal ls rs)
+    ≡ run (sameKey q) (ruleOf q k (look k ls rs)) (pilePlaced deal ls rs)
 rule-same q (arithmetic a) deal ls rs h l = refl
 rule-same q (comparison t) deal ls rs h l = refl
 rule-same q (setRule k) deal ls rs h l = refl
@@ -61,9 +62,11 @@ unfolding verdict
 verdicts q deal ls rs d =
     rw (
       rule-same q (kindOf (q .operator)) deal ls rs (d .apart) (d .first),
-      rule-same q (kindOf (q .operator)) (secondPile deal) ls rs (apart-second q deal (placed ls rs) (d .apart)) (d .second),
+      rule-same q (kindOf (q .operator)) (secondPile deal) ls rs
+          (apart-second (sameKey q) deal (placed ls rs) (d .apart)) (d .second),
     )
-    (dealt-verdict q (ruleOf q (kindOf (q .operator)) (look (kindOf (q .operator)) ls rs)) (rule-natural q (kindOf (q .operator)) _)
+    (dealt-verdict (sameKey q) (ruleOf q (kindOf (q .operator)) (look (kindOf (q .operator)) ls rs))
+    (rule-natural q (kindOf (q .operator)) _)
     (rule-steady q (kindOf (q .operator)) _) deal ls rs (d .apart))
 
 -- answers are in order of rank
@@ -71,5 +74,6 @@ pub verdict-rising : (q : Query) (ls rs : List Series) (l : List (Ranked Rank Se
 unfolding verdict
 verdict-rising q ls rs l e =
     let f = ruleOf q (kindOf (q .operator)) (look (kindOf (q .operator)) ls rs) in
-    answer-rising (emission q f (placed ls rs)) (placed ls rs) l
-    (events-orderly q f (rule-steady q (kindOf (q .operator)) _) (placed ls rs) (placed ls rs) (placed-ascending ls rs) (placed-ascending ls rs)) e
+    answer-rising (emission (sameKey q) f (placed ls rs)) (placed ls rs) l
+    (events-orderly (sameKey q) f (rule-steady q (kindOf (q .operator)) _) (placed ls rs) (placed ls rs)
+    (placed-ascending ls rs) (placed-ascending ls rs)) e

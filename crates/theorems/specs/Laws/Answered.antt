@@ -8,11 +8,11 @@ use native.Mathlib.Omega.{arith}
 use lib.Dec.{ltb, eqb}
 use borrow.Author.Tests.{eq-eqb, eqb-true, ltb-true}
 use Rattle.model.specs.Lists.{cases, All, gather}
-use Rattle.model.specs.Query.{Query, Side, left, right}
+use Rattle.model.specs.Query.{Side, left, right}
 use Rattle.model.specs.Vector.{Series}
 use Rattle.model.specs.Laws.Lists.{keep-append}
 use Rattle.semantics.specs.Places.{Place, Placed, placed, samePlace, before, earlier, alongside, Rank}
-use Rattle.semantics.specs.Events.{Duplicate, Event, good, bad, Ranked, Rule, Verdict, answer, duplicate, ofKey, producedBy, emission, events, front}
+use Rattle.semantics.specs.Events.{Duplicate, Event, good, bad, Ranked, KeyTest, Rule, Verdict, answer, duplicate, ofKey, producedBy, emission, events, front}
 use Rattle.semantics.specs.Events.{settle, run}
 use Rattle.theorems.specs.Claims.Prometheus.{In, givenBy}
 use Rattle.theorems.specs.Laws.Order.{After, Ascending, placed-ascending}
@@ -146,8 +146,9 @@ module _ (g : Placed → List (Ranked Place Event)) where
           let b = all-in (After (x .place)) s xs (a .0) m in
           given-split (s .place) x xs ∙ rw (given-other (s .place) (x .place) (g x) (apart (x .place) (s .place) (b .0) .0)) (ih m)
 
-pub given-is : (q : Query) (f : Rule) (ls rs : List Series) (l : List (Ranked Rank Series)) → run q f (placed ls rs) ≡ answer l
-    → (s : Placed) → In s (placed ls rs) → givenBy (s .place) l ≡ goods (emission q f (placed ls rs) s)
-given-is q f ls rs l e s h =
-    ap (givenBy (s .place)) (answered (events q f (placed ls rs)) l e .is)
-    ∙ given-one (λ x. f x (ofKey q (x .series .labels) (placed ls rs))) s (placed ls rs) (placed-ascending ls rs) h
+pub given-is : (same : KeyTest) (f : Rule) (ls rs : List Series) (l : List (Ranked Rank Series))
+    → run same f (placed ls rs) ≡ answer l
+    → (s : Placed) → In s (placed ls rs) → givenBy (s .place) l ≡ goods (emission same f (placed ls rs) s)
+given-is same f ls rs l e s h =
+    ap (givenBy (s .place)) (answered (events same f (placed ls rs)) l e .is)
+    ∙ given-one (λ x. f x (ofKey same (x .series .labels) (placed ls rs))) s (placed ls rs) (placed-ascending ls rs) h

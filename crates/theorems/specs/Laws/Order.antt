@@ -8,11 +8,11 @@ use native.Mathlib.Omega.{arith}
 use lib.Dec.{ltb}
 use borrow.Author.Tests.{le-ltb, lt-ltb}
 use Rattle.model.specs.Lists.{cases, keep, All, gather}
-use Rattle.model.specs.Query.{Query, sameKey, Side, left, right}
+use Rattle.model.specs.Query.{Side, left, right}
 use Rattle.model.specs.Vector.{Series}
 use Rattle.theorems.specs.Claims.Dealing.{Behind, Rising}
 use Rattle.semantics.specs.Places.{Place, Placed, numbered, placed, earlier, before, rankBefore}
-use Rattle.semantics.specs.Events.{Ranked, Event, mark, Rule, ofKey, producedBy, emission}
+use Rattle.semantics.specs.Events.{Ranked, Event, mark, KeyTest, Rule, ofKey, producedBy, emission}
 use Rattle.semantics.specs.Rules as Rules
 use Rattle.semantics.specs.Rules.{Plain, plain, onSide, other, ofSide, isFirst, Merged, nothing, one, clash, mergedIntoLast, mergedIntoEarliest, both}
 use Rattle.semantics.specs.Rules.{pairs, alikeTo, worked, groupOf, groups, joined, optional, leftResult, rightResult, setRuleOf, hasReadings}
@@ -93,13 +93,16 @@ produced-behind : (p q : Place) (l m : List (Ranked Place Event)) → before p q
     → All (λ e. All (Behind rankBefore e) (producedBy q m)) (producedBy p l)
 produced-behind p q l m h k = All-on-map _ _ l (All-each (λ e. All-on-map _ _ m (All-each (λ b. (cc, cc)) m)) l)
 
-pub events-orderly : (q : Query) (f : Rule) → Steady f → (ys xs : List Placed) → Ascending ys → Ascending xs → Orderly rankBefore (emission q f ys) xs
-events-orderly q f st ys [] up a = tt
-events-orderly q f st ys (x ∷ xs) up a = (
-  produced-rising (x .place) (f x (ofKey q (x .series .labels) ys))
-      (st .rises x (ofKey q (x .series .labels) ys) (ascending-keep (λ s. sameKey q (x .series .labels) (s .series .labels)) ys up)),
-  All-map (λ y h. produced-behind (x .place) (y .place) (f x (ofKey q (x .series .labels) ys)) (f y (ofKey q (y .series .labels) ys)) (h .0) (h .1)) xs (a .0),
-  events-orderly q f st ys xs up (a .1),
+pub events-orderly : (same : KeyTest) (f : Rule) → Steady f → (ys xs : List Placed) → Ascending ys → Ascending xs
+    → Orderly rankBefore (emission same f ys) xs
+events-orderly same f st ys [] up a = tt
+events-orderly same f st ys (x ∷ xs) up a = (
+  produced-rising (x .place) (f x (ofKey same (x .series .labels) ys))
+      (st .rises x (ofKey same (x .series .labels) ys)
+      (ascending-keep (λ s. same (x .series .labels) (s .series .labels)) ys up)),
+  All-map (λ y h. produced-behind (x .place) (y .place) (f x (ofKey same (x .series .labels) ys))
+      (f y (ofKey same (y .series .labels) ys)) (h .0) (h .1)) xs (a .0),
+  events-orderly same f st ys xs up (a .1),
 )
 
 -- each rule is steady
@@ -109,7 +112,7 @@ All-mark Q r [] h = tt
 All-mark Q r (e ∷ es) h = (h, All-mark Q r es h)
 
 -- a rule that ranks by one place gives one event at most
-abbrev AtMostOne : {E : Type 0} → List E → Type 0
+abbrev pub AtMostOne : {E : Type 0} → List E → Type 0
 AtMostOne [] = Unit {0}
 AtMostOne (e ∷ []) = Unit {0}
 AtMostOne (e ∷ d ∷ es) = ⊥
@@ -136,10 +139,10 @@ rising-cond : {E : Type 0} (t : Bool) (l : List (Ranked Place E)) → Rising bef
 rising-cond true l r = r
 rising-cond false l r = tt
 
-plain-steady : (f : Plain) → ((s : Placed) (xs : List Placed) → AtMostOne (f s xs)) → Steady (plain f)
+pub plain-steady : (f : Plain) → ((s : Placed) (xs : List Placed) → AtMostOne (f s xs)) → Steady (plain f)
 plain-steady f o = record { rises = λ s xs a. rising-mark (s .place) (f s xs) (o s xs) }
 
-cond-one : {E : Type 0} (t : Bool) (l m : List E) → AtMostOne l → AtMostOne m → AtMostOne (cond t l m)
+pub cond-one : {E : Type 0} (t : Bool) (l m : List E) → AtMostOne l → AtMostOne m → AtMostOne (cond t l m)
 cond-one true l m h k = h
 cond-one false l m h k = k
 

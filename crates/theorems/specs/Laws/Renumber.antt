@@ -8,12 +8,12 @@ use lib.ListN.{getD}
 use Rattle.operator.specs.Kinds.{SetRule, whereFound, whereNone, filled}
 use Rattle.model.specs.Lists.{cases, keep}
 use Rattle.model.specs.Reading.{missing, noReading}
-use Rattle.model.specs.Query.{Query, Side, oneToOne}
+use Rattle.model.specs.Query.{Side, oneToOne}
 use Rattle.model.specs.Vector.{Series}
 use Rattle.model.specs.Laws.Lists.{keep-map, gather-map, map-gather, map-map, gather-each}
 use Rattle.theorems.specs.Claims.Dealing.{Renumber, movedPlace, movedDuplicate, movedRank, movedRanked, movedVerdict}
 use Rattle.semantics.specs.Places.{Place, Placed, samePlace, Rank}
-use Rattle.semantics.specs.Events.{Event, good, bad, Ranked, mark, Rule, ofKey, emission, events, Verdict, answer, duplicate, front, settle, run}
+use Rattle.semantics.specs.Events.{Event, good, bad, Ranked, mark, KeyTest, Rule, ofKey, emission, events, Verdict, answer, duplicate, front, settle, run}
 use Rattle.semantics.specs.Rules as Rules
 use Rattle.semantics.specs.Rules.{Plain, plain, onSide, other, ofSide, isFirst, Merged, nothing, one, clash, onMerged, absorbed, lastOf, earlierOnes}
 use Rattle.semantics.specs.Rules.{mergedIntoLast, mergedIntoEarliest, both, pairs, worked, groupOf, groups, joined, optional, leftResult, rightResult}
@@ -45,16 +45,18 @@ settle-moved : (ρ : Renumber) (l : List (Ranked Rank Event)) → settle (map (m
 settle-moved ρ [] = refl
 settle-moved ρ (e ∷ l) = rw (settle-moved ρ l) (front-moved ρ (e .rank) (e .what) (settle l))
 
-module _ (q : Query) (f : Rule) (natural : Natural f) (ρ : Renumber) (exact : Exact ρ) where
+module _ (same : KeyTest) (f : Rule) (natural : Natural f) (ρ : Renumber) (exact : Exact ρ) where
   emission-moved : (xs : List Placed) (s : Placed)
-      → emission q f (map (movedSeries ρ) xs) (movedSeries ρ s) ≡ map (movedRanked (movedRank ρ) (movedEvent ρ)) (emission q f xs s)
-  emission-moved xs s = rw (keep-map, natural .moves ρ exact s (ofKey q (s .series .labels) xs)) (simp map-map)
+      → emission same f (map (movedSeries ρ) xs) (movedSeries ρ s)
+      ≡ map (movedRanked (movedRank ρ) (movedEvent ρ)) (emission same f xs s)
+  emission-moved xs s = rw (keep-map, natural .moves ρ exact s (ofKey same (s .series .labels) xs)) (simp map-map)
 
-  events-moved : (xs : List Placed) → events q f (map (movedSeries ρ) xs) ≡ map (movedRanked (movedRank ρ) (movedEvent ρ)) (events q f xs)
+  events-moved : (xs : List Placed) → events same f (map (movedSeries ρ) xs)
+      ≡ map (movedRanked (movedRank ρ) (movedEvent ρ)) (events same f xs)
   events-moved xs = rw (gather-map, map-gather) (gather-each (emission-moved xs) xs)
 
-  pub run-moved : (xs : List Placed) → run q f (map (movedSeries ρ) xs) ≡ movedVerdict ρ (run q f xs)
-  run-moved xs = rw (events-moved xs) (settle-moved ρ (events q f xs))
+  pub run-moved : (xs : List Placed) → run same f (map (movedSeries ρ) xs) ≡ movedVerdict ρ (run same f xs)
+  run-moved xs = rw (events-moved xs) (settle-moved ρ (events same f xs))
 
 -- each rule is natural
 
@@ -63,7 +65,7 @@ mark-moved : {E : Type 0} (ρ : Renumber) (h : E → E) (p : Place) (es : List E
 mark-moved ρ h p [] = refl
 mark-moved ρ h p (e ∷ es) = rw (mark-moved ρ h p es)
 
-map-cond : {A C : Type 0} (h : A → C) (t : Bool) (l m : List A) → map h (cond t l m) ≡ cond t (map h l) (map h m)
+pub map-cond : {A C : Type 0} (h : A → C) (t : Bool) (l m : List A) → map h (cond t l m) ≡ cond t (map h l) (map h m)
 map-cond h true l m = refl
 map-cond h false l m = refl
 
@@ -123,7 +125,7 @@ module _ (ρ : Renumber) where
   worked-moved work (clash d) = refl
 
   module _ (exact : Exact ρ) where
-    first-moved : (s : Placed) (xs : List Placed) → isFirst (movedSeries ρ s) (map (movedSeries ρ) xs) ≡ isFirst s xs
+    pub first-moved : (s : Placed) (xs : List Placed) → isFirst (movedSeries ρ s) (map (movedSeries ρ) xs) ≡ isFirst s xs
     first-moved s [] = refl
     first-moved s (x ∷ xs) = exact (s .place) (x .place)
 
@@ -173,7 +175,7 @@ module _ (ρ : Renumber) where
         → setRuleOf adds alone meet (movedSeries ρ s) (map (movedSeries ρ) xs) ≡ map (movedEvent ρ) (setRuleOf adds alone meet s xs)
     set-rule-moved adds s xs = simp (side-moved, left-moved, right-moved, map-cond)
 
-plain-natural : (f : Plain) →
+pub plain-natural : (f : Plain) →
     ((ρ : Renumber) → Exact ρ → (s : Placed) (xs : List Placed) → f (movedSeries ρ s) (map (movedSeries ρ) xs) ≡ map (movedEvent ρ) (f s xs))
     → Natural (plain f)
 plain-natural f h = record { moves = λ ρ exact s xs. rw (h ρ exact s xs, mark-moved) }

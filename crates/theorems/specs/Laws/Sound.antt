@@ -4,11 +4,11 @@ use mathlib.Core.Bool.{Bool, true, false, cond}
 use mathlib.Core.Option.{Option, none, some}
 use mathlib.Core.List.{List, [], _∷_}
 use Rattle.model.specs.Lists.{keep, All}
-use Rattle.model.specs.Query.{Query, sameKey, Side, left, right}
+use Rattle.model.specs.Query.{Side, left, right}
 use Rattle.model.specs.Vector.{Series}
 use Rattle.model.specs.Laws.Lists.{All-map, All-on-map, All-keep, All-gather}
 use Rattle.semantics.specs.Places.{Placed, Rank}
-use Rattle.semantics.specs.Events.{Event, good, bad, Ranked, mark, Rule, ofKey, emission, events, Verdict, answer, duplicate, front, settle, run}
+use Rattle.semantics.specs.Events.{Event, good, bad, Ranked, mark, KeyTest, Rule, ofKey, emission, events, Verdict, answer, duplicate, front, settle, run}
 use Rattle.semantics.specs.Rules as Rules
 use Rattle.semantics.specs.Rules.{Plain, plain, onSide, other, ofSide, isFirst, Merged, nothing, one, clash, onMerged, mergedInto, absorbed, lastOf}
 use Rattle.semantics.specs.Rules.{earlierOnes, mergedIntoLast, mergedIntoEarliest, both, pairs, sameEdited, alikeTo, worked, groupOf, groups, joined}
@@ -42,7 +42,7 @@ module _ (P : Series → Type 0) where
   marked p [] a = tt
   marked p (e ∷ es) a = (a .0, marked p es (a .1))
 
-  either : {A : Type 0} (Q : A → Type 0) (t : Bool) (l m : List A) → All Q l → All Q m → All Q (cond t l m)
+  pub either : {A : Type 0} (Q : A → Type 0) (t : Bool) (l m : List A) → All Q l → All Q m → All Q (cond t l m)
   either Q true l m h k = h
   either Q false l m h k = k
 
@@ -55,14 +55,15 @@ module _ (P : Series → Type 0) where
   settle-holds [] a = tt
   settle-holds (e ∷ l) a = front-holds (e .rank) (e .what) (settle l) (a .0) (settle-holds l (a .1))
 
-  pub run-holds : (q : Query) (f : Rule) → Keeps f → (xs : List Placed) → Each xs → Holds (run q f xs)
-  run-holds q f k xs a =
-      settle-holds (events q f xs)
-      (All-gather _ (emission q f xs) xs
-      (All-map (λ x h. All-on-map _ _ (f x (ofKey q (x .series .labels) xs))
-      (k .keeps x (ofKey q (x .series .labels) xs) h (All-keep _ (λ s. sameKey q (x .series .labels) (s .series .labels)) xs a))) xs a))
+  pub run-holds : (same : KeyTest) (f : Rule) → Keeps f → (xs : List Placed) → Each xs → Holds (run same f xs)
+  run-holds same f k xs a =
+      settle-holds (events same f xs)
+      (All-gather _ (emission same f xs) xs
+      (All-map (λ x h. All-on-map _ _ (f x (ofKey same (x .series .labels) xs))
+      (k .keeps x (ofKey same (x .series .labels) xs) h
+      (All-keep _ (λ s. same (x .series .labels) (s .series .labels)) xs a))) xs a))
 
-  plain-keeps : (f : Plain) → ((s : Placed) (xs : List Placed) → P (s .series) → Each xs → All Fine (f s xs)) → Keeps (plain f)
+  pub plain-keeps : (f : Plain) → ((s : Placed) (xs : List Placed) → P (s .series) → Each xs → All Fine (f s xs)) → Keeps (plain f)
   plain-keeps f h = record { keeps = λ s xs a b. marked (s .place) (f s xs) (h s xs a b) }
 
   pub dropping-keeps : (f : Rule) → Keeps f → Keeps (dropping f)

@@ -8,10 +8,10 @@ use Rattle.key_numbers.proofs.key_lookup.find_key.Statement.{statement}
 use Rattle.key_numbers.proofs.key_lookup.find_key.Tie as tie
 
 abbrev Inv-loop : tie.InvT-loop
-Inv-loop array at hashes rec h matching list i₀ i = Finding (matchingOf matching) list array at hashes rec i
+Inv-loop array at hashes rec h named matching list i₀ i = Finding named (matchingOf matching) list array at hashes rec i
 
 abbrev μ-loop : tie.MeasureT-loop
-μ-loop array at hashes rec h matching list i₀ i = length hashes - i
+μ-loop array at hashes rec h named matching list i₀ i = length hashes - i
 
 same-key-requires : tie.Need-same-key-requires Inv-loop μ-loop
 same-key-requires c κs = (search find-hash, search needs)

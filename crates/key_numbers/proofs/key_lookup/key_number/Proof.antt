@@ -9,7 +9,7 @@ returns-2 c =
     let few = c .before .before in
     let noted = few .before in
     let start = noted .before .before .before .before .before .before in
-    key-there _ _ _ _ _ _ (start .pre .0) _ _ (start .pre .1 .0) _ (start .pre .1 .1) _ (noted .place-noted .ensures)
+    key-there _ _ _ _ _ _ _ (start .pre .0) _ _ (start .pre .1 .0) _ (start .pre .1 .1) _ (noted .place-noted .ensures)
     (few .if1 .left) _ (c .before .has-key .ensures) (c .if2 .taken)
 
 pub key-number-spec : {M : Type 1} → statement M

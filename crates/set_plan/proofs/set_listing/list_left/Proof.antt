@@ -3,9 +3,10 @@ use Prim.Native.Nat.{_-_}
 use native.Mathlib.Omega.{arith}
 use lib.ListN.{length}
 use Rattle.side_parts.specs.Lent.{lent, unlabelled}
+use Rattle.key_ends.specs.Ends.{ends-room}
 use Rattle.set_plan.specs.set_operators.Works.{meantWork}
 use Rattle.set_series.proofs.Rows.{row-in}
-use Rattle.set_plan.proofs.set_listing.Listing.{ends-room, LeftListing, left-starts, left-length}
+use Rattle.set_plan.proofs.set_listing.Listing.{LeftListing, left-starts, left-length}
 use Rattle.set_plan.proofs.set_listing.Listing.{places-length, left-ends, met-fits, left-held, left-turn}
 use borrow.Author.Needs.{needs}
 use Rattle.set_plan.proofs.set_listing.list_left.Statement.{statement}

@@ -1,7 +1,8 @@
 -- `list_right` meets its contract. Assumes nothing.
 use Prim.Native.Nat.{_-_}
 use lib.ListN.{length}
-use Rattle.set_plan.proofs.set_listing.Listing.{ends-room, RightListing, right-starts, right-turn}
+use Rattle.key_ends.specs.Ends.{ends-room}
+use Rattle.set_plan.proofs.set_listing.Listing.{RightListing, right-starts, right-turn}
 use Rattle.set_plan.proofs.set_listing.Listing.{right-length, right-ends}
 use borrow.Author.Needs.{needs}
 use Rattle.set_plan.proofs.set_listing.list_right.Statement.{statement}

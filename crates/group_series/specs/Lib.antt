@@ -1,0 +1,3 @@
+pub mod running
+pub mod points
+pub mod Groups
