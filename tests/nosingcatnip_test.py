@@ -1,5 +1,6 @@
 """Tests of the Python module, over the shared library: what it encodes is held against the encoder of the test data, what it answers
 against the scope document's examples and plain arithmetic."""
+import _ctypes
 import doctest
 import functools
 import math
@@ -89,11 +90,13 @@ class Bytes(unittest.TestCase):
     def test_aggregations_in_the_encoder_s_words(self):
         for number, name in enumerate(wire.AGGREGATES):
             self.assertEqual(encode_aggregation(name), wire.aggregation(number))
-            self.assertEqual(encode_aggregation(f'{name.upper()} by (a, "press no.")'), wire.aggregation(number, wire.BY, [b'a', b'press no.']))
+            by = wire.aggregation(number, wire.BY, [b'a', b'press no.'])
+            self.assertEqual(encode_aggregation(f'{name.upper()} by (a, "press no.")'), by)
             self.assertEqual(encode_aggregation(f'{name} without(__name__)'), wire.aggregation(number, wire.WITHOUT, [b'__name__']))
         for text, what in [('', "'' is no aggregate"), ('median', "'median' is no aggregate"), ('sum over (a)', "did not expect 'over'"),
-                           ('sum by', r'\( is missing after by'), ('sum by (a', r'\) is missing after by'), ('sum by (a) b', "did not expect 'b'"),
-                           ('sum (a)', r"did not expect '\('"), ('sum by ("")', 'a label is empty'), (f'sum by ({"x" * 256})', 'longer than 255')]:
+                           ('sum by', r'\( is missing after by'), ('sum by (a', r'\) is missing after by'),
+                           ('sum by (a) b', "did not expect 'b'"), ('sum (a)', r"did not expect '\('"),
+                           ('sum by ("")', 'a label is empty'), (f'sum by ({"x" * 256})', 'longer than 255')]:
             with self.subTest(text[:9]), self.assertRaisesRegex(ValueError, f'^query: .*{what}'):
                 encode_aggregation(text)
 
@@ -222,7 +225,8 @@ class Calls(unittest.TestCase):
             'min by (p)': [({'p': 'A'}, [1, None, -0.0, -math.inf]), ({'p': 'B'}, [2, 3, None, 1])],
             'max without (f)': [({'p': 'A'}, [4, None, -0.0, math.inf]), ({'p': 'B'}, [2, 3, None, 1])],
             'count': [({}, [3, 1, 1, 3])],
-            'avg by (__name__)': [({'__name__': 'a'}, [1, None, -0.0, math.inf]), ({}, [2, 3, None, 1]), ({'__name__': 'b'}, [4, None, None, -math.inf])],
+            'avg by (__name__)': [({'__name__': 'a'}, [1, None, -0.0, math.inf]), ({}, [2, 3, None, 1]),
+                                  ({'__name__': 'b'}, [4, None, None, -math.inf])],
             'sum by (*)': [({}, [7, 3, -0.0, None])],
         }.items():
             with self.subTest(request):
@@ -271,6 +275,7 @@ class Calls(unittest.TestCase):
             os.makedirs(folder)
             shutil.copy(nosingcatnip.__file__, folder)
             self.assertIn('bindings/build makes it', said('').splitlines()[-1])
+            self.assertIn('has no nosingcatnip_exec_binop; bindings/build makes', said(_ctypes.__file__).splitlines()[-1])
             os.symlink(built.LIBRARY, beside)
             self.assertEqual(said(''), '')
             os.rename(beside, os.path.join(top, 'other.so'))

@@ -481,7 +481,10 @@ def _library():
     if path is None:
         raise OSError(f'{built} is not there; bindings/build makes it')
     library = ctypes.CDLL(path)
-    for function, parts in (library.nosingcatnip_exec_binop, 7), (library.nosingcatnip_exec_aggregate, 5):
+    for name, parts in ('nosingcatnip_exec_binop', 7), ('nosingcatnip_exec_aggregate', 5):
+        if not hasattr(library, name):
+            raise OSError(f'{path} has no {name}; bindings/build makes the library that this module needs')
+        function = getattr(library, name)
         function.argtypes, function.restype = [ctypes.c_void_p, ctypes.c_size_t] * parts + [ctypes.c_void_p], None
     return library
 
