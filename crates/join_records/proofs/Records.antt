@@ -16,7 +16,7 @@ use Rattle.kept_labels.specs.declared.Size.{Size}
 use Rattle.kept_labels.proofs.Sizes.{length-labels}
 use Rattle.set_tags.specs.declared.naming.Naming.{Naming}
 use Rattle.set_tags.specs.declared.naming.Naming.the-variants.{Nobody, Many, Source}
-use Rattle.set_tags.specs.edited_tags.Streams.{editedTags}
+use Rattle.set_tags.specs.edited_tags.Walks.{editedTags}
 use Rattle.set_tags.specs.naming.Namings.{nameOf}
 use Rattle.set_tags.specs.Records.{ShortRecords, edited}
 use Rattle.set_tags.proofs.Sizes.{edited-short}

@@ -4,7 +4,7 @@ use mathlib.Core.Path.{_≡_, refl}
 use mathlib.Core.List.{List, []}
 use Rattle.model.specs.Labels.{Labels}
 use Rattle.model.specs.Edits.{Names}
-use Rattle.model.specs.Laws.SetTags.{stayingTags, setFrom, mergeTags}
+use Rattle.model.specs.Laws.SetTags.{walkTags}
 use Rattle.plan.specs.Joins.{Edit}
 use Rattle.record_tags.specs.Lenient.{labelsOf}
 use Rattle.set_tags.specs.declared.naming.Naming.{Naming}
@@ -14,7 +14,7 @@ use Rattle.set_tags.specs.Records.{edited}
 
 -- 01: its tags then set by `set_tags`. Of the many-side labels m, from the one-side labels o.
 abbrev pub tagsBy : Names → Names → Edit
-tagsBy join skip m o = mergeTags (stayingTags join skip (o .tags) (m .tags)) (setFrom join skip (o .tags))
+tagsBy join skip m o = walkTags join skip (m .tags) (o .tags)
 
 -- 01: its name cleared where `should_reset_metric_group` says; `__name__` from the source's name
 abbrev pub nameBy : Naming → Labels → Labels → List ℕ

@@ -10,7 +10,6 @@ use mir.Val.{Fits}
 use lib.ListN.{length, take, drop}
 use Rattle.model.specs.Labels.{sameBytes, nameLabel, valueOf}
 use Rattle.model.specs.Record.{Decoded, decoded, cut, badKey, decode, Lookup, foundAs, lookupIn, lookup, valuePart}
-use Rattle.model.specs.Laws.SetTags.{isNone}
 use Rattle.fields.specs.Fields.{fieldAt}
 use Rattle.record_tags.specs.Lenient.{tagsUpTo, labelsOf, labels-decoded}
 use Rattle.record_tags.specs.Cursors.{NextAt, every}
@@ -64,14 +63,6 @@ pub value-room : (s : List ℕ) (n p : ℕ) (x : Next) → NextAt every s n p x 
 value-room s n p x hx b a e z m ex g =
     let w = next-stands every s n p x hx b a e z m ex in
     omega (arith, w .valueOrder, w .within)
-
--- `lacks_tag`
-module _ (s : List ℕ) (x : Place) (o : Option (List ℕ)) (hx : FoundAt s x o) where
-  pub tag-there : (a e : ℕ) → x ≡ At a e → false ≡ isNone o
-  tag-there a e ex = ap isNone (rw ex at (hx .bytes))
-
-  pub tag-not-there : x ≡ Short → true ≡ isNone o
-  tag-not-there ex = ap isNone (rw ex at (hx .bytes))
 
 -- `value_at`
 module _ (x : Place) where

@@ -4,11 +4,9 @@ use label_records::Record;
 use operator::Operator;
 use record_tags::Next;
 ghost use mathlib.Core.Path.{_≡_};
-ghost use mathlib.Core.Bool.{true};
 ghost use mathlib.Core.Option.{some};
 ghost use Rattle.model.specs.Labels.{valueOf};
 ghost use Rattle.model.specs.Record.{lookup, valuePart};
-ghost use Rattle.model.specs.Laws.SetTags.{isNone};
 ghost use Rattle.record_tags.specs.Lenient.{labelsOf};
 ghost use Rattle.metric_name.specs.Lookups.{FoundAt, ValueAt, valueFrom, stateAnswer, lookupAnswer};
 
@@ -48,16 +46,6 @@ fn find_tag(rec: &[u8], key: &[u8]) -> Place
         }
         p = end;
         n = left;
-    }
-}
-
-// Whether a record has no tag of a key.
-pub fn lacks_tag(rec: &[u8], key: &[u8]) -> bool
-    ensures { λ r. ⌜ r ≡ isNone (valueOf (now (key .entry)) (labelsOf (now (rec .entry)) .tags)) ⌝ }
-{
-    match find_tag(rec, key) {
-        Place::At { start: _, end: _ } => false,
-        Place::Short => true,
     }
 }
 

@@ -15,7 +15,7 @@ use Rattle.record_tags.specs.Cursors.{encodeTag, encode-tag}
 use Rattle.kept_labels.specs.Edited.{TagsSized}
 use Rattle.writing.specs.Written.{Put}
 use Rattle.writing.proofs.Written.{Rest, rest-start, rest-room, rest-put, rest-done}
-use Rattle.set_tags.specs.edited_tags.Streams.{editedTags, tagsLeft, WalkOf, EditedAt}
+use Rattle.set_tags.specs.edited_tags.Walks.{editedTags, tagsLeft, WalkOf, EditedAt}
 use Rattle.set_tags.specs.declared.edited_tags.Walk.{Walk}
 use Rattle.set_tags.specs.declared.edited_tags.Edited.{Edited}
 use Rattle.set_tags.specs.declared.edited_tags.Edited.the-variants as E

@@ -9,14 +9,14 @@ use Rattle.model.specs.Labels.{Tag, Labels, nameLabel, WellFormed}
 use Rattle.model.specs.Record.{encodeTags}
 use Rattle.model.specs.Edits.{Names, isListed, clearNameIf, setTags}
 use Rattle.model.specs.Laws.Edits.{clear-well}
-use Rattle.model.specs.Laws.SetTags.{stayingTags, setFrom, mergeTags, set-tags-merge, set-tags-name}
+use Rattle.model.specs.Laws.SetTags.{walkTags, set-tags-walk, set-tags-name}
 use Rattle.record_tags.specs.Lenient.{labelsOf}
 use Rattle.writing.specs.Written.{Put}
 use Rattle.set_tags.specs.declared.PutTags.{PutTags}
 use Rattle.set_tags.specs.declared.naming.Naming.{Naming}
 use Rattle.set_tags.specs.declared.naming.Naming.the-variants.{Nobody, Many, Source}
 use Rattle.set_tags.specs.naming.Namings.{namingOf, nameOf}
-use Rattle.set_tags.specs.edited_tags.Streams.{editedTags}
+use Rattle.set_tags.specs.edited_tags.Walks.{editedTags}
 
 -- records of a label array
 pub record ShortRecords (many source : List ℕ) : Type 0 where
@@ -43,13 +43,16 @@ clear-tags true l = refl
 clear-tags false l = refl
 
 -- of records in order they are the labels that `set_tags` gives
-pub edited-is : (join skip : Names) (reset : Bool) (many source : List ℕ) → WellFormed (labelsOf many) → WellFormed (labelsOf source)
-    → edited join skip (namingOf join skip reset) many source ≡ setTags join skip (labelsOf source) (clearNameIf reset (labelsOf many))
+pub edited-is : (join skip : Names) (reset : Bool) (many source : List ℕ)
+    → WellFormed (labelsOf many) → WellFormed (labelsOf source)
+    → edited join skip (namingOf join skip reset) many source
+    ≡ setTags join skip (labelsOf source) (clearNameIf reset (labelsOf many))
 edited-is join skip reset many source wm ws =
     let l = clearNameIf reset (labelsOf many) in
     let name : nameOf (namingOf join skip reset) many source ≡ setTags join skip (labelsOf source) l .name =
-    name-set (not (isListed skip nameLabel) && isListed join nameLabel) reset many source ∙ sym (set-tags-name join skip (labelsOf source) l) in
+    name-set (not (isListed skip nameLabel) && isListed join nameLabel) reset many source
+    ∙ sym (set-tags-name join skip (labelsOf source) l) in
     let tags : editedTags join skip many source ≡ setTags join skip (labelsOf source) l .tags =
-    ap (λ ts. mergeTags (stayingTags join skip (labelsOf source .tags) ts) (setFrom join skip (labelsOf source .tags))) (sym (clear-tags reset (labelsOf many)))
-    ∙ sym (set-tags-merge join skip (labelsOf source) l ws (clear-well reset (labelsOf many) wm)) in
+    ap (λ ts. walkTags join skip ts (labelsOf source .tags)) (sym (clear-tags reset (labelsOf many)))
+    ∙ sym (set-tags-walk join skip (labelsOf source) l ws (clear-well reset (labelsOf many) wm)) in
     λ i. record { name = name i; tags = tags i }

@@ -5,7 +5,7 @@ ghost use mathlib.Core.Path.{_≡_};
 ghost use Rattle.model.specs.Labels.{sameTags};
 ghost use Rattle.labels.specs.Names.{namesOf};
 ghost use Rattle.chosen_tags.specs.Keys.{hashOf};
-ghost use Rattle.set_tags.specs.edited_tags.Streams.{editedTags};
+ghost use Rattle.set_tags.specs.edited_tags.Walks.{editedTags};
 
 // Whether a many-side record has the same tags edited from the source a as from the source b.
 pub fn same_edited<'a>(many: &'a [u8], a: &'a [u8], b: &'a [u8], join: &[u8], skip: &[u8]) -> bool

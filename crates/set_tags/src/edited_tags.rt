@@ -1,11 +1,11 @@
-// The tags of a join's edited record: the ordered merge of the tags that stay and the tags that are set, so that no work array is needed.
-use crate::tag_streams;
+// The tags of a join's edited record: both records' tags walked once, in key order, so that no work array is needed.
+use crate::tag_tests;
 ghost use mathlib.Core.Path.{_≡_};
 ghost use mathlib.Core.Bool.{cond};
 ghost use Prim.Native.Nat.{_-_};
 ghost use lib.ListN.{take, drop};
 ghost use Rattle.labels.specs.Names.{namesOf};
-ghost use Rattle.set_tags.specs.edited_tags.Streams.{Spans, WalkOf, EditedAt};
+ghost use Rattle.set_tags.specs.edited_tags.Walks.{Spans, WalkOf, stepIf, StepAt, EditedAt};
 use record_tags::Next;
 
 // Where an edit stands: `left` tags of the many side's record are at `many`, and `more` of the source's at `source`.
@@ -16,7 +16,8 @@ pub(crate) struct Walk {
     pub more: usize,
 }
 
-// The next tag of the edited record: its bytes are start..end of the source's record or of the many side's; and the walk behind it.
+// The next tag of the edited record: its bytes are start..end of the source's record or of the many side's; and the
+// walk behind it.
 pub(crate) enum Edited {
     Tag {
         sourced: bool,
@@ -25,6 +26,12 @@ pub(crate) enum Edited {
         rest: Walk,
     },
     End,
+}
+
+// A step of a walk: it finds the next tag or the end, or passes a tag that the edited record lacks.
+enum Step {
+    Found(Edited),
+    Passed(Walk),
 }
 
 // The walk at the start of both records' tags.
@@ -41,85 +48,132 @@ pub(crate) fn walk_of(many: &[u8], source: &[u8]) -> Walk
     }
 }
 
-// The next tag: of the two streams' first tags the one with the lower key. No key stands in both.
-pub(crate) fn next_edited(many: &[u8], source: &[u8], w: Walk, join: &[u8], skip: &[u8]) -> Edited
-    ensures { λ r. ⌜ EditedAt (namesOf (now (join .entry))) (namesOf (now (skip .entry))) (now (many .entry)) (now (source .entry)) w r ⌝ }
+// The step over a tag of one record: found where the edited record keeps it, else passed.
+fn step_if(kept: bool, sourced: bool, start: usize, end: usize, rest: Walk) -> Step
+    ensures { λ r. ⌜ r ≡ stepIf kept sourced start end rest ⌝ }
 {
-    let x = tag_streams::next_staying(many, w.many, w.left, source, join, skip);
-    let y = tag_streams::next_set(source, w.source, w.more, join, skip);
-    match x {
-        Next::Tag {
+    if kept {
+        Step::Found(Edited::Tag {
+            sourced,
             start,
-            key,
-            key_end,
             end,
+            rest,
+        })
+    } else {
+        Step::Passed(rest)
+    }
+}
+
+// The step over the lower of both records' next keys, or over the two tags of a key that both have.
+fn next_step(many: &[u8], source: &[u8], w: Walk, join: &[u8], skip: &[u8]) -> Step
+    ensures { λ r. ⌜
+        StepAt (namesOf (now (join .entry))) (namesOf (now (skip .entry))) (now (many .entry)) (now (source .entry)) w r
+        ⌝ }
+{
+    let x = record_tags::next_tag(many, w.many, w.left);
+    let y = record_tags::next_tag(source, w.source, w.more);
+    let Next::Tag {
+        start,
+        key,
+        key_end,
+        end,
+        left,
+    } = x
+    else {
+        let Next::Tag {
+            start: begin,
+            key: other,
+            key_end: other_end,
+            end: stop,
+            left: more,
+        } = y
+        else {
+            return Step::Found(Edited::End);
+        };
+        return step_if(
+            tag_tests::is_set(join, skip, &source[other..other_end]),
+            true,
+            begin,
+            stop,
+            Walk {
+                many: w.many,
+                left: w.left,
+                source: stop,
+                more,
+            },
+        );
+    };
+    let label = &many[key..key_end];
+    let behind = Walk {
+        many: end,
+        left,
+        source: w.source,
+        more: w.more,
+    };
+    let Next::Tag {
+        start: begin,
+        key: other,
+        key_end: other_end,
+        end: stop,
+        left: more,
+    } = y
+    else {
+        return step_if(
+            tag_tests::remains(join, skip, label),
+            false,
+            start,
+            end,
+            behind,
+        );
+    };
+    let other_label = &source[other..other_end];
+    if fields::same_bytes(label, other_label) {
+        let rest = Walk {
+            many: end,
             left,
-        } => match y {
-            Next::Tag {
-                start: begin,
-                key: other,
-                key_end: other_end,
-                end: stop,
-                left: more,
-            } => {
-                if fields::is_below(&many[key..key_end], &source[other..other_end]) {
-                    Edited::Tag {
-                        sourced: false,
-                        start,
-                        end,
-                        rest: Walk {
-                            many: end,
-                            left,
-                            source: w.source,
-                            more: w.more,
-                        },
-                    }
-                } else {
-                    Edited::Tag {
-                        sourced: true,
-                        start: begin,
-                        end: stop,
-                        rest: Walk {
-                            many: w.many,
-                            left: w.left,
-                            source: stop,
-                            more,
-                        },
-                    }
-                }
-            }
-            Next::End => Edited::Tag {
-                sourced: false,
-                start,
-                end,
-                rest: Walk {
-                    many: end,
-                    left,
-                    source: w.source,
-                    more: w.more,
-                },
-            },
+            source: stop,
+            more,
+        };
+        if tag_tests::is_set(join, skip, label) {
+            return step_if(true, true, begin, stop, rest);
+        }
+        return step_if(true, false, start, end, rest);
+    }
+    if fields::is_below(label, other_label) {
+        return step_if(
+            tag_tests::remains(join, skip, label),
+            false,
+            start,
+            end,
+            behind,
+        );
+    }
+    step_if(
+        tag_tests::is_set(join, skip, other_label),
+        true,
+        begin,
+        stop,
+        Walk {
+            many: w.many,
+            left: w.left,
+            source: stop,
+            more,
         },
-        Next::End => match y {
-            Next::Tag {
-                start: begin,
-                key: _,
-                key_end: _,
-                end: stop,
-                left: more,
-            } => Edited::Tag {
-                sourced: true,
-                start: begin,
-                end: stop,
-                rest: Walk {
-                    many: w.many,
-                    left: w.left,
-                    source: stop,
-                    more,
-                },
-            },
-            Next::End => Edited::End,
-        },
+    )
+}
+
+// The next tag of the edited record.
+pub(crate) fn next_edited(many: &[u8], source: &[u8], w: Walk, join: &[u8], skip: &[u8]) -> Edited
+    ensures { λ r. ⌜
+        EditedAt (namesOf (now (join .entry))) (namesOf (now (skip .entry))) (now (many .entry)) (now (source .entry)) w r
+        ⌝ }
+{
+    let mut v = w;
+    loop {
+        match next_step(many, source, v, join, skip) {
+            Step::Found(x) => return x,
+            Step::Passed(rest) => v = rest,
+        }
     }
 }
 

@@ -1,6 +1,6 @@
 // A join's edited record: the many side's labels, with the join labels set from a one-side series, the source; measured, and written at its place.
-mod tag_streams; // the many side's tags that stay, the source's tags that are set
-mod edited_tags; // a walk over both: the edited record's next tag, with no work array
+mod tag_tests; // which of the source's tags are set, and which of the many side's remain
+mod edited_tags; // a walk over both records' tags in key order: the edited record's next tag, with no work array
 mod naming; // the edited record's name: chosen, measured, and written
 mod edited_alike; // the edited tags of two sources compared in full, and hashed
 
@@ -18,7 +18,7 @@ ghost use Rattle.model.specs.Record.{encodeTags, encode};
 ghost use Rattle.labels.specs.Names.{namesOf};
 ghost use Rattle.writing.specs.Written.{Put};
 ghost use Rattle.kept_labels.specs.Edited.{TagsSized, Sized};
-ghost use Rattle.set_tags.specs.edited_tags.Streams.{editedTags};
+ghost use Rattle.set_tags.specs.edited_tags.Walks.{editedTags};
 ghost use Rattle.set_tags.specs.Records.{ShortRecords, TagsPut, edited};
 
 // How many tags the edited record has, and their bytes.

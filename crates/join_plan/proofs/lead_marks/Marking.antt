@@ -22,7 +22,7 @@ use Rattle.plan.specs.Pairs.{noLabels}
 use Rattle.plan.specs.Joins.{Edit, sameEditedBy, leadOf}
 use Rattle.record_tags.specs.Lenient.{labelsOf}
 use Rattle.chosen_tags.specs.Keys.{hashOf, same-hash}
-use Rattle.set_tags.specs.edited_tags.Streams.{editedTags}
+use Rattle.set_tags.specs.edited_tags.Walks.{editedTags}
 use Rattle.side_parts.specs.Sides.{recordAt, labelsIn, Positions}
 use Rattle.side_parts.specs.Lent.{RecordsHeld}
 use Rattle.side_parts.specs.SideLaws.{labels-at, labels-count}

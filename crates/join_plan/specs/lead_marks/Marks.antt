@@ -10,7 +10,7 @@ use Rattle.model.specs.Edits.{Names}
 use Rattle.plan.specs.Joins.{leadOf, leadsOf}
 use Rattle.record_tags.specs.Lenient.{labelsOf}
 use Rattle.chosen_tags.specs.Keys.{hashOf}
-use Rattle.set_tags.specs.edited_tags.Streams.{editedTags}
+use Rattle.set_tags.specs.edited_tags.Walks.{editedTags}
 use Rattle.side_parts.specs.Sides.{recordAt, labelsIn}
 use Rattle.join_records.specs.Edits.{tagsBy}
 

@@ -1,68 +1,79 @@
--- `set_tags` read as two streams: the tags that stay and the tags set from the source, merged in key order. Assumes nothing.
+-- `set_tags` is one walk over two tag lists in key order, a record's and its source's; and its name. Assumes nothing.
 use Prim.Native.Nat.{ℕ}
 use mathlib.Core.Path.{_≡_, refl, sym, ap, _∙_}
 use mathlib.Core.Bool.{Bool, true, false, not, cond, _&&_, _||_}
 use mathlib.Core.Option.{Option, none, some}
 use mathlib.Core.List.{List, [], _∷_}
-use native.Mathlib.Omega.{arith}
-use Rattle.model.specs.Lists.{cases, keep, All}
-use Rattle.model.specs.Labels.{Tag, Labels, sameBytes, below, nameLabel, ascending, valueOf, WellFormed}
-use Rattle.model.specs.Edits.{Names, isListed, insertTag, withoutTag, setOrRemove, setLabel, setListed, copyTags, star, isStar, setTags}
-use Rattle.model.specs.Laws.Lists.{All-map}
+use Rattle.model.specs.Lists.{cases, keep}
+use Rattle.model.specs.Labels.{Tag, Labels, sameBytes, below, nameLabel, mayFollow, ascending, valueOf, WellFormed}
+use Rattle.model.specs.Edits.{Names, isListed, insertTag, withoutTag, setOrRemove, setLabel, setListed}
+use Rattle.model.specs.Edits.{copyTags, star, isStar, setTags}
 use Rattle.model.specs.Laws.Booleans.{never, not-true, and-true, both-of}
-use Rattle.model.specs.Laws.Order.{same-is, is-same, below-other, value-before, value-none, value-here, value-later, ascending-tail}
-use Rattle.model.specs.Laws.Order.{ascending-cons, may-follow, keep-ascending}
-use Rattle.model.specs.Laws.Tags.{SameValues, tags-equal}
+use Rattle.model.specs.Laws.Order.{same-is, is-same, below-other, value-before, value-none, value-here}
+use Rattle.model.specs.Laws.Order.{value-later, ascending-tail, ascending-cons, ascending-lower, may-follow, keep-ascending}
+use Rattle.model.specs.Laws.Tags.{tags-equal}
 use Rattle.model.specs.Laws.Edits.{set-tags-well}
 
 -- a join label outside the skip list, or under `*` any key outside it, is set from the source
 unfoldable pub isSet : Names → Names → List ℕ → Bool
 isSet joinLabels skip k = not (isListed skip k) && (isStar joinLabels || isListed joinLabels k)
 
-abbrev pub isNone : Option (List ℕ) → Bool
-isNone none = true
-isNone (some v) = false
+-- what is not set remains; `*` removes nothing, so under it a key that the source lacks remains too
+abbrev pub remains : Names → Names → List ℕ → Bool
+remains joinLabels skip k = isStar joinLabels || not (isSet joinLabels skip k)
 
--- what is not set stays; `*` removes nothing, so under it a key that the source lacks stays too
-unfoldable pub stays : Names → Names → List Tag → List ℕ → Bool
-stays joinLabels skip source k = cond (isSet joinLabels skip k) (cond (isStar joinLabels) (isNone (valueOf k source)) false) true
+abbrev pub consIf : Bool → Tag → List Tag → List Tag
+consIf b t ts = cond b (t ∷ ts) ts
 
-abbrev mergeWith : Tag → (List Tag → List Tag) → List Tag → List Tag
-mergeWith x rest [] = x ∷ rest []
-mergeWith x rest (y ∷ ys) = cond (below (x .key) (y .key)) (x ∷ rest (y ∷ ys)) (y ∷ mergeWith x rest ys)
+abbrev walkWith : Names → Names → Tag → (List Tag → List Tag) → List Tag → List Tag
+walkWith joinLabels skip m rest [] = consIf (remains joinLabels skip (m .key)) m (rest [])
+walkWith joinLabels skip m rest (s ∷ ss) =
+    cond (sameBytes (m .key) (s .key))
+    (cond (isSet joinLabels skip (m .key)) s m ∷ rest ss)
+    (cond (below (m .key) (s .key))
+    (consIf (remains joinLabels skip (m .key)) m (rest (s ∷ ss)))
+    (consIf (isSet joinLabels skip (s .key)) s (walkWith joinLabels skip m rest ss)))
 
--- two tag lists in order made one
-unfoldable pub mergeTags : List Tag → List Tag → List Tag
-mergeTags [] ys = ys
-mergeTags (x ∷ xs) ys = mergeWith x (mergeTags xs) ys
+-- the tags of a record, and those of a source, walked in key order: under a key that both have, the one that is set or stays; a key that one
+-- side has alone is set, or remains, or goes
+unfoldable pub walkTags : Names → Names → List Tag → List Tag → List Tag
+walkTags joinLabels skip [] source = keep (λ t. isSet joinLabels skip (t .key)) source
+walkTags joinLabels skip (m ∷ ms) source = walkWith joinLabels skip m (walkTags joinLabels skip ms) source
 
-abbrev pub stayingTags : Names → Names → List Tag → List Tag → List Tag
-stayingTags joinLabels skip source ts = keep (λ t. stays joinLabels skip source (t .key)) ts
+-- how `walkTags` goes
 
-abbrev pub setFrom : Names → Names → List Tag → List Tag
-setFrom joinLabels skip source = keep (λ t. isSet joinLabels skip (t .key)) source
+module _ (joinLabels skip : Names) where
+  pub walk-none : walkTags joinLabels skip [] [] ≡ []
+  unfolding walkTags
+  walk-none = refl
 
--- how `mergeTags` goes
+  pub walk-source : (s : Tag) (ss : List Tag)
+      → walkTags joinLabels skip [] (s ∷ ss) ≡ consIf (isSet joinLabels skip (s .key)) s (walkTags joinLabels skip [] ss)
+  unfolding walkTags
+  walk-source s ss = cases (isSet joinLabels skip (s .key)) (λ e. rw e) (λ e. rw e)
 
-pub nil-merge : (ys : List Tag) → mergeTags [] ys ≡ ys
-unfolding mergeTags
-nil-merge ys = refl
+  pub walk-many : (m : Tag) (ms : List Tag)
+      → walkTags joinLabels skip (m ∷ ms) [] ≡ consIf (remains joinLabels skip (m .key)) m (walkTags joinLabels skip ms [])
+  unfolding walkTags
+  walk-many m ms = refl
 
-pub merge-nil : (xs : List Tag) → mergeTags xs [] ≡ xs
-unfolding mergeTags
-merge-nil [] = refl
-merge-nil (x ∷ xs) = ap (λ l. x ∷ l) (merge-nil xs)
+  module _ (m : Tag) (ms : List Tag) (s : Tag) (ss : List Tag) where
+    pub walk-both : sameBytes (m .key) (s .key) ≡ true
+        → walkTags joinLabels skip (m ∷ ms) (s ∷ ss) ≡ cond (isSet joinLabels skip (m .key)) s m ∷ walkTags joinLabels skip ms ss
+    unfolding walkTags
+    walk-both h = rw h
 
-pub merge-left : (x : Tag) (xs : List Tag) (y : Tag) (ys : List Tag) → below (x .key) (y .key) ≡ true → mergeTags (x ∷ xs) (y ∷ ys) ≡ x ∷ mergeTags xs (y ∷ ys)
-unfolding mergeTags
-merge-left x xs y ys h = rw h
+    pub walk-lower : sameBytes (m .key) (s .key) ≡ false → below (m .key) (s .key) ≡ true
+        → walkTags joinLabels skip (m ∷ ms) (s ∷ ss) ≡ consIf (remains joinLabels skip (m .key)) m (walkTags joinLabels skip ms (s ∷ ss))
+    unfolding walkTags
+    walk-lower h b = rw (h, b)
 
-pub merge-right : (x : Tag) (xs : List Tag) (y : Tag) (ys : List Tag) → below (x .key) (y .key) ≡ false
-    → mergeTags (x ∷ xs) (y ∷ ys) ≡ y ∷ mergeTags (x ∷ xs) ys
-unfolding mergeTags
-merge-right x xs y ys h = rw h
+    pub walk-higher : sameBytes (m .key) (s .key) ≡ false → below (m .key) (s .key) ≡ false
+        → walkTags joinLabels skip (m ∷ ms) (s ∷ ss) ≡ consIf (isSet joinLabels skip (s .key)) s (walkTags joinLabels skip (m ∷ ms) ss)
+    unfolding walkTags
+    walk-higher h b = rw (h, b)
 
--- values
+-- the values that `setTags` gives
 
 abbrev orElse : Option (List ℕ) → Option (List ℕ) → Option (List ℕ)
 orElse none b = b
@@ -174,64 +185,6 @@ value-copied skip k p (t ∷ us) ts a =
     (λ f. rw (f, level ∙ f, later, value-same k t us e) (value-insert-at k t ts e)))
     (λ e. rw (value-later k t us e) (cases (isListed skip (t .key)) (λ f. rw f) (λ f. rw (f, value-insert-other k t ts e))))
 
-value-merged : (k p : List ℕ) (xs ys : List Tag) → ascending p ys ≡ true → valueOf k (mergeTags xs ys) ≡ orElse (valueOf k ys) (valueOf k xs)
-unfolding mergeTags
-value-merged k p [] ys a = rw (value-none k) (sym (or-none (valueOf k ys)))
-value-merged k p (x ∷ xs) ys a = go p ys a (λ q zs b. value-merged k q xs zs b)
-  where
-    go : (p : List ℕ) (ys : List Tag) → ascending p ys ≡ true
-        → ((q : List ℕ) (zs : List Tag) → ascending q zs ≡ true → valueOf k (mergeTags xs zs) ≡ orElse (valueOf k zs) (valueOf k xs))
-        → valueOf k (mergeWith x (mergeTags xs) ys) ≡ orElse (valueOf k ys) (valueOf k (x ∷ xs))
-    go p [] a ih = rw (merge-nil xs, value-none k)
-    go p (y ∷ ys) a ih =
-        let g = ascending-tail p y ys a in
-        cases (below (x .key) (y .key))
-        (λ f. rw f (cases (sameBytes (x .key) k)
-        (λ e.
-        let behind : ascending (x .key) (y ∷ ys) ≡ true = ascending-cons (x .key) y ys (may-follow p (y .key) (x .key) (g .0) f) (g .1) in
-        let absent : valueOf k (y ∷ ys) ≡ none = value-before k (y ∷ ys) (rw (← (same-is (x .key) k e)) behind) in
-        value-same k x (mergeTags xs (y ∷ ys)) e ∙ sym (ap (λ o. orElse o (valueOf k (x ∷ xs))) absent ∙ value-same k x xs e))
-        (λ e. value-later k x (mergeTags xs (y ∷ ys)) e ∙ ih p (y ∷ ys) a ∙ ap (orElse (valueOf k (y ∷ ys))) (sym (value-later k x xs e)))))
-        (λ f. rw f (cases (sameBytes (y .key) k)
-        (λ e. value-same k y (mergeWith x (mergeTags xs) ys) e ∙ sym (ap (λ o. orElse o (valueOf k (x ∷ xs))) (value-same k y ys e)))
-        (λ e. value-later k y (mergeWith x (mergeTags xs) ys) e ∙ go (y .key) ys (g .1) ih
-        ∙ ap (λ o. orElse o (valueOf k (x ∷ xs))) (sym (value-later k y ys e)))))
-
--- order
-
--- no key of the first list stands in the second
-abbrev Apart : List Tag → List Tag → Type 0
-Apart xs ys = All (λ x. valueOf (x .key) ys ≡ none) xs
-
-not-here : (k : List ℕ) (y : Tag) (ys : List Tag) → valueOf k (y ∷ ys) ≡ none → (sameBytes (y .key) k ≡ false) × (valueOf k ys ≡ none)
-not-here k y ys h =
-    cases (sameBytes (y .key) k)
-    (λ e. absurd (let z : _≡_ {A = ℕ} 0 1 = cc (sym (value-same k y ys e) ∙ h) in omega arith))
-    (λ e. (e, sym (value-later k y ys e) ∙ h))
-
-apart-tail : (xs : List Tag) (y : Tag) (ys : List Tag) → Apart xs (y ∷ ys) → Apart xs ys
-apart-tail xs y ys a = All-map (λ x h. not-here (x .key) y ys h .1) xs a
-
-merged-ascending : (p : List ℕ) (xs ys : List Tag) → ascending p xs ≡ true → ascending p ys ≡ true → Apart xs ys → ascending p (mergeTags xs ys) ≡ true
-unfolding mergeTags
-merged-ascending p [] ys a b d = b
-merged-ascending p (x ∷ xs) ys a b d = go p ys a b d (λ q zs. merged-ascending q xs zs)
-  where
-    go : (p : List ℕ) (ys : List Tag) → ascending p (x ∷ xs) ≡ true → ascending p ys ≡ true → Apart (x ∷ xs) ys
-        → ((q : List ℕ) (zs : List Tag) → ascending q xs ≡ true → ascending q zs ≡ true → Apart xs zs → ascending q (mergeTags xs zs) ≡ true)
-        → ascending p (mergeWith x (mergeTags xs) ys) ≡ true
-    go p [] a b d ih = rw (merge-nil xs) a
-    go p (y ∷ ys) a b d ih =
-        let ga = ascending-tail p x xs a in
-        let gb = ascending-tail p y ys b in
-        let unlike = same-sym (y .key) (x .key) (not-here (x .key) y ys (d .0) .0) in
-        cases (below (x .key) (y .key))
-        (λ f. rw f (ascending-cons p x (mergeTags xs (y ∷ ys)) (ga .0)
-        (ih (x .key) (y ∷ ys) (ga .1) (ascending-cons (x .key) y ys (may-follow p (y .key) (x .key) (gb .0) f) (gb .1)) (d .1))))
-        (λ f. rw f (ascending-cons p y (mergeWith x (mergeTags xs) ys) (gb .0)
-        (go (y .key) ys (ascending-cons (y .key) x xs (may-follow p (x .key) (y .key) (ga .0) (below-other (x .key) (y .key) unlike f)) (ga .1))
-        (gb .1) (apart-tail (x ∷ xs) y ys d) ih)))
-
 value-name : (p : List ℕ) (ts : List Tag) → ascending p ts ≡ true → valueOf nameLabel ts ≡ none
 value-name p [] a = value-none nameLabel
 value-name p (t ∷ ts) a =
@@ -239,115 +192,163 @@ value-name p (t ∷ ts) a =
     let h = both-of (below p (t .key)) (not (sameBytes (t .key) nameLabel)) (g .0) in
     value-later nameLabel t ts (not-true (sameBytes (t .key) nameLabel) (h .1)) ∙ value-name (t .key) ts (g .1)
 
--- the two tests, for a list and for `*`
+-- the test, for a list and for `*`
 
-set-listed : (joinLabels skip : Names) (k : List ℕ) → isStar joinLabels ≡ false → isSet joinLabels skip k ≡ (not (isListed skip k) && isListed joinLabels k)
+set-listed : (joinLabels skip : Names) (k : List ℕ) → isStar joinLabels ≡ false
+    → isSet joinLabels skip k ≡ (not (isListed skip k) && isListed joinLabels k)
 unfolding isSet
 set-listed joinLabels skip k h = rw h
 
-set-star : (joinLabels skip : Names) (k : List ℕ) → isStar joinLabels ≡ true → isSet joinLabels skip k ≡ not (isListed skip k)
+set-star : (joinLabels skip : Names) (k : List ℕ) → isStar joinLabels ≡ true
+    → isSet joinLabels skip k ≡ not (isListed skip k)
 unfolding isSet
 set-star joinLabels skip k h = rw h (and-true (not (isListed skip k)))
 
-stay-listed : (joinLabels skip : Names) (us : List Tag) (k : List ℕ) → isStar joinLabels ≡ false
-    → stays joinLabels skip us k ≡ cond (isSet joinLabels skip k) false true
-unfolding stays
-stay-listed joinLabels skip us k h = rw h
+-- the walk: its order and its values
 
-stay-star : (joinLabels skip : Names) (us : List Tag) (k : List ℕ) → isStar joinLabels ≡ true
-    → stays joinLabels skip us k ≡ cond (isSet joinLabels skip k) (isNone (valueOf k us)) true
-unfolding stays
-stay-star joinLabels skip us k h = rw h
+ascending-from : (p q : List ℕ) (t : Tag) (ts : List Tag) → ascending p (t ∷ ts) ≡ true → below q (t .key) ≡ true
+    → ascending q (t ∷ ts) ≡ true
+ascending-from p q t ts a h =
+    let g = ascending-tail p t ts a in
+    ascending-cons q t ts (may-follow p (t .key) q (g .0) h) (g .1)
 
-All-kept : {P : Tag → Type 0} (p : Tag → Bool) → ((t : Tag) → p t ≡ true → P t) → (ts : List Tag) → All P (keep p ts)
-All-kept p h [] = tt
-All-kept p h (t ∷ ts) = cases (p t) (λ e. rw e (h t e, All-kept p h ts)) (λ e. rw e (All-kept p h ts))
+ascending-if : (b : Bool) (p : List ℕ) (t : Tag) (ts : List Tag) → mayFollow p (t .key) ≡ true
+    → ascending (t .key) ts ≡ true → ascending p (consIf b t ts) ≡ true
+ascending-if true p t ts h a = ascending-cons p t ts h a
+ascending-if false p t ts h a =
+    ascending-lower p (t .key) ts (both-of (below p (t .key)) (not (sameBytes (t .key) nameLabel)) h .0) a
+
+value-if : (b : Bool) (k : List ℕ) (t : Tag) (ts : List Tag) → sameBytes (t .key) k ≡ false
+    → valueOf k (consIf b t ts) ≡ valueOf k ts
+value-if true k t ts e = value-later k t ts e
+value-if false k t ts e = refl
+
+module _ (joinLabels skip : Names) where
+  -- of the source's value and the record's, the one that a key has afterwards
+  abbrev chosen : List ℕ → Option (List ℕ) → Option (List ℕ) → Option (List ℕ)
+  chosen k s m = cond (isSet joinLabels skip k) (cond (isStar joinLabels) (orElse s m) s) m
+
+  -- tags in order behind the key p, with the values chosen from those of a record and a source
+  record Chosen (p : List ℕ) (ms ss ts : List Tag) : Type 0 where
+    order : ascending p ts ≡ true
+    values : (k : List ℕ) → valueOf k ts ≡ chosen k (valueOf k ss) (valueOf k ms)
+
+  chosen-source : (p : List ℕ) (ss : List Tag) → ascending p ss ≡ true → Chosen p [] ss (walkTags joinLabels skip [] ss)
+  unfolding walkTags
+  chosen-source p ss b = record {
+    order = keep-ascending (λ t. isSet joinLabels skip (t .key)) p ss b;
+    values = λ k.
+        value-keep (isSet joinLabels skip) k ss
+        ∙ rw (value-none k, or-none (valueOf k ss), cond-same (isStar joinLabels) (valueOf k ss));
+  }
+
+  chosen-lower : (p : List ℕ) (m : Tag) {ms ss ts : List Tag} → mayFollow p (m .key) ≡ true
+      → ascending (m .key) ss ≡ true → Chosen (m .key) ms ss ts
+      → Chosen p (m ∷ ms) ss (consIf (remains joinLabels skip (m .key)) m ts)
+  chosen-lower p m {ms} {ss} {ts} h b c = record {
+    order = ascending-if (remains joinLabels skip (m .key)) p m ts h (c .order);
+    values = λ k. cases (sameBytes (m .key) k)
+        (λ e. rw (← (same-is (m .key) k e)) here)
+        (λ e. rw (value-later k m ms e) (value-if (remains joinLabels skip (m .key)) k m ts e ∙ c .values k));
+  }
+    where
+      here : valueOf (m .key) (consIf (remains joinLabels skip (m .key)) m ts)
+          ≡ chosen (m .key) (valueOf (m .key) ss) (valueOf (m .key) (m ∷ ms))
+      here =
+          cases (isStar joinLabels)
+          (λ f. rw (f, value-before (m .key) ss b, value-here m ms, value-here m ts)
+          (sym (cond-same (isSet joinLabels skip (m .key)) (some (m .value)))))
+          (λ f. cases (isSet joinLabels skip (m .key))
+          (λ e. rw (f, e) (c .values (m .key) ∙ rw (f, e)))
+          (λ e. rw (f, e) (value-here m ts ∙ sym (value-here m ms))))
+
+  chosen-higher : (p : List ℕ) (s : Tag) {ms ss ts : List Tag} → mayFollow p (s .key) ≡ true
+      → Chosen (s .key) ms ss ts → Chosen p ms (s ∷ ss) (consIf (isSet joinLabels skip (s .key)) s ts)
+  chosen-higher p s {ms} {ss} {ts} h c = record {
+    order = ascending-if (isSet joinLabels skip (s .key)) p s ts h (c .order);
+    values = λ k. cases (sameBytes (s .key) k)
+        (λ e. rw (← (same-is (s .key) k e)) here)
+        (λ e. rw (value-later k s ss e) (value-if (isSet joinLabels skip (s .key)) k s ts e ∙ c .values k));
+  }
+    where
+      here : valueOf (s .key) (consIf (isSet joinLabels skip (s .key)) s ts)
+          ≡ chosen (s .key) (valueOf (s .key) (s ∷ ss)) (valueOf (s .key) ms)
+      here =
+          cases (isSet joinLabels skip (s .key))
+          (λ e. rw (e, value-here s ss, value-here s ts) (sym (cond-same (isStar joinLabels) (some (s .value)))))
+          (λ e. rw e (c .values (s .key) ∙ rw e))
+
+  chosen-both : (p : List ℕ) (m s : Tag) {ms ss ts : List Tag} → mayFollow p (m .key) ≡ true → m .key ≡ s .key
+      → Chosen (m .key) ms ss ts → Chosen p (m ∷ ms) (s ∷ ss) (cond (isSet joinLabels skip (m .key)) s m ∷ ts)
+  chosen-both p m s {ms} {ss} {ts} h q c =
+      cases (isSet joinLabels skip (m .key))
+      (λ e. rw e (one s (sym q) (rw e (sym (cond-same (isStar joinLabels) (some (s .value)))))))
+      (λ e. rw e (one m refl (rw e)))
+    where
+      one : (t : Tag) → t .key ≡ m .key → some (t .value) ≡ chosen (m .key) (some (s .value)) (some (m .value))
+          → Chosen p (m ∷ ms) (s ∷ ss) (t ∷ ts)
+      one t j v = record {
+        order = ascending-cons p t ts (rw j h) (rw j (c .order));
+        values = λ k. cases (sameBytes (m .key) k)
+            (λ e. rw (value-same k t ts (rw j e), value-same k m ms e, value-same k s ss (rw (← q) e))
+            (rw (← (same-is (m .key) k e)) v))
+            (λ e. rw (value-later k t ts (rw j e), value-later k m ms e, value-later k s ss (rw (← q) e))
+            (c .values k));
+      }
+
+  walk-chosen : (p : List ℕ) (ms ss : List Tag) → ascending p ms ≡ true → ascending p ss ≡ true
+      → Chosen p ms ss (walkTags joinLabels skip ms ss)
+  unfolding ascending
+  walk-chosen p [] ss a b = chosen-source p ss b
+  walk-chosen p (m ∷ ms) ss a b = go p ss a b (λ q zs. walk-chosen q ms zs)
+    where
+      go : (p : List ℕ) (ss : List Tag) → ascending p (m ∷ ms) ≡ true → ascending p ss ≡ true
+          → ((q : List ℕ) (zs : List Tag) → ascending q ms ≡ true → ascending q zs ≡ true
+          → Chosen q ms zs (walkTags joinLabels skip ms zs))
+          → Chosen p (m ∷ ms) ss (walkTags joinLabels skip (m ∷ ms) ss)
+      go p [] a b ih =
+          let ga = ascending-tail p m ms a in
+          rw (walk-many joinLabels skip m ms) (chosen-lower p m (ga .0) refl (ih (m .key) [] (ga .1) refl))
+      go p (s ∷ ss) a b ih =
+          let ga = ascending-tail p m ms a in
+          let gb = ascending-tail p s ss b in
+          cases (sameBytes (m .key) (s .key))
+          (λ e.
+          let q = same-is (m .key) (s .key) e in
+          rw (walk-both joinLabels skip m ms s ss e)
+          (chosen-both p m s (ga .0) q (ih (m .key) ss (ga .1) (rw q (gb .1)))))
+          (λ e. cases (below (m .key) (s .key))
+          (λ f.
+          let behind = ascending-from p (m .key) s ss b f in
+          rw (walk-lower joinLabels skip m ms s ss e f)
+          (chosen-lower p m (ga .0) behind (ih (m .key) (s ∷ ss) (ga .1) behind)))
+          (λ f.
+          let behind = ascending-from p (s .key) m ms a (below-other (m .key) (s .key) e f) in
+          rw (walk-higher joinLabels skip m ms s ss e f)
+          (chosen-higher p s (gb .0) (go (s .key) ss behind (gb .1) ih))))
 
 -- the law
 
 module _ (joinLabels skip : Names) (source l : Labels) (ws : WellFormed source) (wl : WellFormed l) where
-  abbrev us : List Tag
-  us = source .tags
-
-  abbrev staying : List Tag
-  staying = stayingTags joinLabels skip us (l .tags)
-
-  abbrev fromSource : List Tag
-  fromSource = setFrom joinLabels skip us
-
-  stays-apart : (k : List ℕ) → stays joinLabels skip us k ≡ true → valueOf k fromSource ≡ none
-  unfolding stays
-  stays-apart k h =
-      value-keep (isSet joinLabels skip) k us
-      ∙ cases (isSet joinLabels skip k)
-      (λ e. rw e (go (isStar joinLabels) (valueOf k us) (ap (λ b. cond b (cond (isStar joinLabels) (isNone (valueOf k us)) false) true) (sym e) ∙ h)))
-      (λ e. rw e)
-    where
-      go : (b : Bool) (o : Option (List ℕ)) → cond b (isNone o) false ≡ true → o ≡ none
-      go true none e = refl
-      go true (some v) e = never e
-      go false o e = never e
-
-  apart-streams : Apart staying fromSource
-  apart-streams = All-kept (λ t. stays joinLabels skip us (t .key)) (λ t h. stays-apart (t .key) h) (l .tags)
-
-  from-ascending : ascending [] fromSource ≡ true
-  from-ascending = keep-ascending (λ t. isSet joinLabels skip (t .key)) [] us (ws .order)
-
-  staying-ascending : ascending [] staying ≡ true
-  staying-ascending = keep-ascending (λ t. stays joinLabels skip us (t .key)) [] (l .tags) (wl .order)
-
-  streams-ascending : ascending [] (mergeTags staying fromSource) ≡ true
-  streams-ascending = merged-ascending [] staying fromSource staying-ascending from-ascending apart-streams
-
-  -- the value that the streams give a key
-  streams-value : (k : List ℕ) → valueOf k (mergeTags staying fromSource)
-      ≡ orElse (cond (isSet joinLabels skip k) (valueOf k us) none) (cond (stays joinLabels skip us k) (valueOf k (l .tags)) none)
-  streams-value k =
-      value-merged k [] staying fromSource from-ascending
-      ∙ rw (value-keep (isSet joinLabels skip) k us, value-keep (stays joinLabels skip us) k (l .tags))
-
-  listed-values : isStar joinLabels ≡ false → (k : List ℕ) → sameBytes k nameLabel ≡ false
-      → valueOf k (setTags joinLabels skip source l .tags) ≡ valueOf k (mergeTags staying fromSource)
+  set-chosen : (k : List ℕ) → sameBytes k nameLabel ≡ false → valueOf k (setTags joinLabels skip source l .tags)
+      ≡ chosen joinLabels skip k (valueOf k (source .tags)) (valueOf k (l .tags))
   unfolding setTags
-  listed-values h k plain =
-      rw h (value-listed skip source k plain joinLabels l) ∙ go (isListed skip k) (isListed joinLabels k) refl refl ∙ sym (streams-value k)
-    where
-      unfoldings : (b c : Bool) → isListed skip k ≡ b → isListed joinLabels k ≡ c → isSet joinLabels skip k ≡ (not b && c)
-      unfoldings b c e f = set-listed joinLabels skip k h ∙ rw (e, f)
-
-      go : (b c : Bool) → isListed skip k ≡ b → isListed joinLabels k ≡ c
-          → cond (not (isListed skip k) && isListed joinLabels k) (valueOf k us) (valueOf k (l .tags))
-          ≡ orElse (cond (isSet joinLabels skip k) (valueOf k us) none) (cond (stays joinLabels skip us k) (valueOf k (l .tags)) none)
-      go true c e f = rw (stay-listed joinLabels skip us k h, unfoldings true c e f, e)
-      go false true e f = rw (stay-listed joinLabels skip us k h, unfoldings false true e f, e, f) (sym (or-none (valueOf k us)))
-      go false false e f = rw (stay-listed joinLabels skip us k h, unfoldings false false e f, e, f)
-
-  star-values : isStar joinLabels ≡ true → SameValues (setTags joinLabels skip source l .tags) (mergeTags staying fromSource)
-  unfolding setTags
-  star-values h k =
-      rw h (value-copied skip k [] us (l .tags) (ws .order)) ∙ go (isListed skip k) (valueOf k us) refl refl ∙ sym (streams-value k)
-    where
-      go : (b : Bool) (o : Option (List ℕ)) → isListed skip k ≡ b → valueOf k us ≡ o
-          → cond (isListed skip k) (valueOf k (l .tags)) (orElse (valueOf k us) (valueOf k (l .tags)))
-          ≡ orElse (cond (isSet joinLabels skip k) (valueOf k us) none) (cond (stays joinLabels skip us k) (valueOf k (l .tags)) none)
-      go true o e f = rw (stay-star joinLabels skip us k h, set-star joinLabels skip k h, e)
-      go false none e f = rw (stay-star joinLabels skip us k h, set-star joinLabels skip k h, e, f)
-      go false (some v) e f = rw (stay-star joinLabels skip us k h, set-star joinLabels skip k h, e, f)
-
-  same-values : SameValues (setTags joinLabels skip source l .tags) (mergeTags staying fromSource)
-  same-values k =
+  set-chosen k plain =
       cases (isStar joinLabels)
-      (λ h. star-values h k)
-      (λ h. cases (sameBytes k nameLabel)
-      (λ e. ap (λ x. valueOf x (setTags joinLabels skip source l .tags)) (same-is k nameLabel e)
-      ∙ value-name [] (setTags joinLabels skip source l .tags) (set-tags-well joinLabels skip source l ws wl .order)
-      ∙ sym (ap (λ x. valueOf x (mergeTags staying fromSource)) (same-is k nameLabel e) ∙ value-name [] (mergeTags staying fromSource) streams-ascending))
-      (λ e. listed-values h k e))
+      (λ h. rw (h, set-star joinLabels skip k h) (value-copied skip k [] (source .tags) (l .tags) (ws .order)
+      ∙ cases (isListed skip k) (λ e. rw e) (λ e. rw e)))
+      (λ h. rw (h, set-listed joinLabels skip k h) (value-listed skip source k plain joinLabels l))
 
-  pub set-tags-merge : setTags joinLabels skip source l .tags ≡ mergeTags staying fromSource
-  set-tags-merge = tags-equal [] (setTags joinLabels skip source l .tags) (mergeTags staying fromSource)
-      (set-tags-well joinLabels skip source l ws wl .order) streams-ascending same-values
+  pub set-tags-walk : setTags joinLabels skip source l .tags ≡ walkTags joinLabels skip (l .tags) (source .tags)
+  set-tags-walk =
+      let given = setTags joinLabels skip source l .tags in
+      let order : ascending [] given ≡ true = set-tags-well joinLabels skip source l ws wl .order in
+      let walk = walkTags joinLabels skip (l .tags) (source .tags) in
+      let w = walk-chosen joinLabels skip [] (l .tags) (source .tags) (wl .order) (ws .order) in
+      tags-equal [] given walk order (w .order) (λ k.
+      cases (sameBytes k nameLabel)
+      (λ e. rw (same-is k nameLabel e) (value-name [] given order ∙ sym (value-name [] walk (w .order))))
+      (λ e. set-chosen k e ∙ sym (w .values k)))
 
 -- the name
 

@@ -10,7 +10,7 @@ use Rattle.model.specs.Edits.{Names}
 use Rattle.record_tags.specs.Cursors.{encodeTag, encode-tag}
 use Rattle.chosen_tags.specs.Keys.{hashBytes, hashOf, hash-append}
 use Rattle.chosen_tags.proofs.Keys.{same-tag}
-use Rattle.set_tags.specs.edited_tags.Streams.{editedTags, tagsLeft, WalkOf, EditedAt}
+use Rattle.set_tags.specs.edited_tags.Walks.{editedTags, tagsLeft, WalkOf, EditedAt}
 use Rattle.set_tags.specs.declared.edited_tags.Walk.{Walk}
 use Rattle.set_tags.specs.declared.edited_tags.Edited.{Edited}
 use Rattle.set_tags.specs.declared.edited_tags.Edited.the-variants as E

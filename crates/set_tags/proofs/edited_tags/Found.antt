@@ -4,7 +4,7 @@ use mathlib.Core.Path.{_≡_}
 use mathlib.Core.Bool.{Bool, cond}
 use mathlib.Core.List.{List, []}
 use Rattle.model.specs.Edits.{Names}
-use Rattle.set_tags.specs.edited_tags.Streams.{tagsLeft, tagsIn, Spans, FirstLies, EditedAt}
+use Rattle.set_tags.specs.edited_tags.Walks.{tagsLeft, tagsIn, Spans, FirstLies, EditedAt}
 use Rattle.set_tags.specs.declared.edited_tags.Walk.{Walk}
 use Rattle.set_tags.specs.declared.edited_tags.Edited.{Edited}
 use Rattle.set_tags.specs.declared.edited_tags.Edited.the-variants as E

@@ -2,7 +2,7 @@
 use borrow.Author.Needs.{needs}
 use Rattle.labels.specs.Names.{namesOf}
 use Prim.Native.Nat.{_+_}
-use Rattle.set_tags.specs.edited_tags.Streams.{editedTags}
+use Rattle.set_tags.specs.edited_tags.Walks.{editedTags}
 use Rattle.set_tags.proofs.edited_tags.Found.{edit-spans, edit-fewer}
 use Rattle.set_tags.proofs.Loops.{PutLeft, put-start, put-ended, put-fits, one-room, put-one-tag}
 use Rattle.set_tags.proofs.put_edited.Statement.{statement}

@@ -3,7 +3,7 @@ use borrow.Author.Needs.{needs}
 use Rattle.labels.specs.Names.{namesOf}
 use Rattle.chosen_tags.specs.Keys.{hashOf}
 use Prim.Native.Nat.{_+_}
-use Rattle.set_tags.specs.edited_tags.Streams.{editedTags}
+use Rattle.set_tags.specs.edited_tags.Walks.{editedTags}
 use Rattle.set_tags.proofs.edited_tags.Found.{edit-spans, edit-fewer}
 use Rattle.set_tags.proofs.edited_alike.Loops.{HashLeft, hash-start, hash-done, hash-turn}
 use Rattle.set_tags.proofs.edited_alike.hash_edited.Statement.{statement}

@@ -3,7 +3,7 @@ use borrow.Author.Needs.{needs}
 use Rattle.labels.specs.Names.{namesOf}
 use Rattle.model.specs.Labels.{sameTags}
 use Prim.Native.Nat.{_+_}
-use Rattle.set_tags.specs.edited_tags.Streams.{editedTags}
+use Rattle.set_tags.specs.edited_tags.Walks.{editedTags}
 use Rattle.set_tags.proofs.edited_tags.Found.{edit-spans, edit-fewer}
 use Rattle.set_tags.proofs.edited_alike.Loops.{SameLeft, same-start, both-end, first-ends, second-ends, tags-differ, same-turn}
 use Rattle.set_tags.proofs.edited_alike.same_edited.Statement.{statement}

@@ -1,8 +1,8 @@
--- `tag_streams::is_set` meets its contract. Assumes nothing.
+-- `tag_tests::is_set` meets its contract. Assumes nothing.
 use borrow.Author.Needs.{needs}
-use Rattle.set_tags.proofs.tag_streams.Tests.{skipped-unset, star-sets, listed-sets}
-use Rattle.set_tags.proofs.tag_streams.is_set.Statement.{statement}
-use Rattle.set_tags.proofs.tag_streams.is_set.Tie as tie
+use Rattle.set_tags.proofs.tag_tests.Tests.{skipped-unset, star-sets, listed-sets}
+use Rattle.set_tags.proofs.tag_tests.is_set.Statement.{statement}
+use Rattle.set_tags.proofs.tag_tests.is_set.Tie as tie
 
 in-list-requires : tie.Need-in-list-requires
 in-list-requires c κs = search needs
