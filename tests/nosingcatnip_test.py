@@ -217,6 +217,28 @@ class Calls(unittest.TestCase):
         answer = exec_binop('* on(press) group_left()', forms, Vector([{'press': 'A'}], [[0.5, 1]]))
         self.assertEqual([(labels['form'], row[0]) for labels, row in answer], [(str(i), i / 2) for i in range(1, 7)])
 
+    def test_a_join_writes_its_records_bytes_and_no_others(self):
+        forms = Vector([{'press': 'A', 'form': '1', 'stock': 'x'}, {'press': 'A', 'form': '2'}], [[1], [2]])
+        rates = Vector([{'press': 'A', 'size': '9', 'stock': 'gloss'}], [[3]])
+        for query, tags in {'* on(press) group_left(stock)': [(b'press', b'A'), (b'stock', b'gloss')],
+                            '* on(press) group_left(*)': [(b'press', b'A'), (b'size', b'9'), (b'stock', b'gloss')]}.items():
+            records = b''.join(wire.record(b'', [(b'form', form), *tags]) for form in (b'1', b'2'))
+            for behind in 0, 1, 7:
+                labels, out = bytearray(b'\xbb' * (len(records) + behind)), array('d', [9] * 3)
+                exec_binop(query, forms, rates, labels, out)
+                self.assertEqual((bytes(labels), list(out)), (records + b'\xbb' * behind, [3, 6, 9]))
+            for room, points in (len(records) - 1, 2), (len(records), 1), (0, 2):
+                labels, out = bytearray(b'\xbb' * room), array('d', [9] * points)
+                with self.assertRaises(Refusal) as told:
+                    exec_binop(query, forms, rates, labels, out)
+                self.assertEqual((told.exception.number, bytes(labels), list(out)), (10, b'\xbb' * room, [9] * points))
+
+    def test_tags_are_compared_as_they_are_edited(self):
+        form = Vector([{'x': '1'}], [[2, 2, 2]])
+        rates = Vector([{'x': '1'}, {}], [[1, None, None], [None, 3, None]])
+        self.assertEqual(str(exec_binop('* on() group_left(*)', form, rates)), '{x="1"} 2 6 -')
+        self.assertEqual(str(exec_binop('* on() group_left(x)', form, rates)), '{x="1"} 2 - -\n{} - 6 -')
+
     def test_aggregates(self):
         vector = Vector([{'__name__': 'a', 'p': 'A', 'f': '1'}, {'p': 'B'}, {'__name__': 'b', 'p': 'A', 'f': '2'}],
                         [[1, None, -0.0, math.inf], [2, 3, None, 1], [4, None, None, -math.inf]], 60000, 1000)

@@ -155,6 +155,18 @@ fn join_apart(r: &mut Random, p: usize) -> Workload {
     made(format!("group_left *, 1 on 512, 512 a key that stay apart, {p} points"), &join_query(), &left, &right)
 }
 
+/// Three tags on each side, all of the one side's set: one new, one for one that the many-side record has, and the key's. Short
+/// rows, so that the editing of records shows.
+fn join_starred(r: &mut Random, n: usize, p: usize) -> Workload {
+    let (mut left, mut right) = (side(r, n, p, 1, 0, Gaps::Random), side(r, n, p, 1, 0, Gaps::Random));
+    for (i, (many, one)) in left.series.iter_mut().zip(right.series.iter_mut()).enumerate() {
+        many.labels.tags = vec![tag("form", i), tag("press", i), tag("stock", i % 4)];
+        one.labels.tags = vec![tag("press", i), tag("size", i % 8), tag("stock", i % 3)];
+    }
+    let query = Query { join_list: vec![b"*".to_vec()], ..join_query() };
+    made(format!("group_left(*) *, {n} on {n}, three tags, {p} points"), &query, &left, &right)
+}
+
 /// Short rows: matching dominates.
 fn labelled(r: &mut Random, op: Operator) -> Workload {
     let (left, right) = (side(r, 512, 16, 1, 3, Gaps::Random), side(r, 512, 16, 1, 3, Gaps::Random));
@@ -209,5 +221,6 @@ pub fn workloads() -> Vec<Workload> {
     for presses in [16, 1] {
         all.extend(GAPS.map(|gaps| sum_by(r, presses, 1024, gaps)));
     }
+    all.push(join_starred(r, 512, 16));
     all
 }
