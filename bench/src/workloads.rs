@@ -155,8 +155,8 @@ fn join_apart(r: &mut Random, p: usize) -> Workload {
     made(format!("group_left *, 1 on 512, 512 a key that stay apart, {p} points"), &join_query(), &left, &right)
 }
 
-/// Three tags on each side, all of the one side's set: one new, one for one that the many-side record has, and the key's. Short
-/// rows, so that the editing of records shows.
+/// Three tags on each side. Of the one side's, one is new, one stands for one that the many-side record has, and the key's is left
+/// alone. Short rows, so that the editing of records shows.
 fn join_starred(r: &mut Random, n: usize, p: usize) -> Workload {
     let (mut left, mut right) = (side(r, n, p, 1, 0, Gaps::Random), side(r, n, p, 1, 0, Gaps::Random));
     for (i, (many, one)) in left.series.iter_mut().zip(right.series.iter_mut()).enumerate() {
