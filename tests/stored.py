@@ -1,5 +1,6 @@
 #!/usr/bin/env python3
-"""Writes the stored test data of the crates again: what each test program reads, and what the scope document says that it prints.
+"""Writes the stored test data again: what each test program of the crates reads, and what the scope document says that it prints; and
+the cases that replay_test.py replays, with what it says of each.
 
     tests/stored.py           writes the files that differ
     tests/stored.py --check   writes nothing, and ends with 1 where a file differs
@@ -14,8 +15,7 @@ from expected import ROOT, binaryop, examples, keys, labels, query, read, set_ta
 def differing():
     """The paths and contents of the files that are not stored as they are worked out."""
     for module in binaryop, examples, keys, labels, query, set_tags, vecop, vectors:
-        for name, content in module.FILES.items():
-            path = os.path.join('crates', name)
+        for path, content in module.FILES.items():
             data = content if isinstance(content, bytes) else content.encode()
             if not os.path.exists(os.path.join(ROOT, path)) or read(path) != data:
                 yield path, data

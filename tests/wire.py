@@ -93,10 +93,10 @@ def frame(*parts):
 
 
 def number(n):
-    """A number of the test programs' cases, 2 bytes."""
+    """A number of a stored case, 2 bytes."""
     return struct.pack('<H', n)
 
 
 def part(content):
-    """A part of the test programs' cases: its length, a number, and its bytes."""
+    """A part of a stored case: its length, a number, and its bytes."""
     return number(len(content)) + content

@@ -1,5 +1,6 @@
-"""Calls that turn on the allowance of their query, and what 02 says of them: test_vecop and test_replay have them in common. Every series
-is without name and tags: a side is its rows, None for missing, and so is an answer. A refusal is its number and fields."""
+"""Calls that turn on the allowance of their query, and what 02 says of them: test_vecop and the cases of replay_test.py have them in
+common. Every series is without name and tags: a side is its rows, None for missing, and so is an answer. A refusal is its number and
+fields."""
 from wire import ADD, AND, GROUP_LEFT, GROUP_RIGHT, ONE_TO_ONE, OR, query
 
 N = None

@@ -147,4 +147,4 @@ merge(4, *sharing(1100, range(1090, 1095)))
 
 GIVEN = b''.join(cases)
 assert len(GIVEN) <= 65536, 'the program reads no more'
-FILES = {'test_binaryop/stdin': GIVEN, 'test_binaryop/stdout': '\n'.join(lines) + '\n'}
+FILES = {'crates/test_binaryop/stdin': GIVEN, 'crates/test_binaryop/stdout': '\n'.join(lines) + '\n'}

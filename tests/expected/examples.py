@@ -1,6 +1,4 @@
-"""crates/test_replay: the stored sample, and examples with what 01 and 02 say of them, each outcome written out here by hand."""
-import struct
-
+"""tests/replayed.cases: the stored sample, and examples with what 01 and 02 say of them, each outcome written out here by hand."""
 import wire
 from expected import allowances, read
 from wire import ADD, AND, ATAN2, DIV, GROUP_LEFT, GROUP_RIGHT, KEEP_NAMES, MUL, ON, OR, POW, SIZES, UNLESS, number, part, query
@@ -229,8 +227,4 @@ def case(asked, left, right, room, outcome):
 
 examples = [*settled(), *misreadings(), *both_sides(), *query_faults(), *running(), *grids(), *unequal_grids(), *merges()]
 sample = read('oracle/sample/cases.bin')
-count, = struct.unpack_from('<H', sample)
-FILES = {
-    'test_replay/stdin': sample + b''.join(part(name.encode()) + part(case(*called)) for name, *called in examples),
-    'test_replay/stdout': f'{count} cases of the sample, {count} agree\n' + ''.join(f'{name}: agrees\n' for name, *_ in examples),
-}
+FILES = {'tests/replayed.cases': sample + b''.join(part(name.encode()) + part(case(*called)) for name, *called in examples)}

@@ -151,6 +151,6 @@ def shown(left, right):
 
 cases = [*equal_keys(), *prefixes(), *empty_values(), *names(), *named(), *nothing_left(), *full_sides(), *buckets()]
 FILES = {
-    'test_keys/stdin': b''.join(given(*case) for case in cases),
-    'test_keys/stdout': ''.join(shown(*numbers(*case)) for case in cases),
+    'crates/test_keys/stdin': b''.join(given(*case) for case in cases),
+    'crates/test_keys/stdout': ''.join(shown(*numbers(*case)) for case in cases),
 }

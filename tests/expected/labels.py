@@ -193,6 +193,6 @@ def edits():
 
 cases = [*prefixes(), *damaged_bytes(), *lookups(), *bad_keys(), *limits(), *lists(), *keys(), *edits()]
 FILES = {
-    'test_labels/stdin': b''.join(bytes([asked]) + part(a) + part(b) + part(labels) for asked, a, b, labels in cases),
-    'test_labels/stdout': ''.join(answer(*case) + '\n' for case in cases),
+    'crates/test_labels/stdin': b''.join(bytes([asked]) + part(a) + part(b) + part(labels) for asked, a, b, labels in cases),
+    'crates/test_labels/stdout': ''.join(answer(*case) + '\n' for case in cases),
 }

@@ -71,4 +71,4 @@ cases += [query(op, allowance=9) for op in range(21)] + [bytes([2, 9]), bytes([1
 cases += [query(7, m, j, f, ms, js, 9) for m in range(4) for j in range(5) for f in (0, 4) for ms in ([], [b'a']) for js in ([], [b'*'])]
 cases += [query(0, 1, 1, 0, *lists, 9) for lists in ((many[:32], many[:32]), (many, []), ([], many), ([b''], []), ([], [b'']))]
 
-FILES = {'test_query/stdin': b''.join(map(part, cases)), 'test_query/stdout': ''.join(taken(q) + '\n' for q in cases)}
+FILES = {'crates/test_query/stdin': b''.join(map(part, cases)), 'crates/test_query/stdout': ''.join(taken(q) + '\n' for q in cases)}

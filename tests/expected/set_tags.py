@@ -173,8 +173,8 @@ def given(reset, join, skip, records):
 
 cases = [*listings(), *places(), *stars(), *empty_values(), *prefixes(), *alike(), *limits()]
 FILES = {
-    'test_set_tags/stdin': b''.join(
+    'crates/test_set_tags/stdin': b''.join(
         [given(reset, join, skip, b''.join(map(encoded, series))) for reset, join, skip, *series in cases]
         + [given(False, [], [], records) for records in refused()]),
-    'test_set_tags/stdout': ''.join([answer(*case) for case in cases] + ['refused\n' for _ in refused()]),
+    'crates/test_set_tags/stdout': ''.join([answer(*case) for case in cases] + ['refused\n' for _ in refused()]),
 }

@@ -234,8 +234,8 @@ case(GIVEN, 'answer 1 1000 0 3600000\n' + NAME.decode() + '{k="b"}' + f' {ONE}' 
 unreadable(largest(65537)[0])
 
 FILES = {
-    'vecop/stdin': CASES[0][0],
-    'vecop/stdout': CASES[0][1],
-    'test_vecop/stdin': frame(*(given for given, _ in CASES)),
-    'test_vecop/stdout': b''.join(text for _, text in CASES),
+    'crates/vecop/stdin': CASES[0][0],
+    'crates/vecop/stdout': CASES[0][1],
+    'crates/test_vecop/stdin': frame(*(given for given, _ in CASES)),
+    'crates/test_vecop/stdout': b''.join(text for _, text in CASES),
 }

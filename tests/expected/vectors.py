@@ -166,6 +166,6 @@ def shown(outcome, at):
 
 cases = [*limits(), *lengths(), *keys(), *several_faults(), *grids(), *damaged_bytes()]
 FILES = {
-    'test_vectors/stdin': b''.join(part(labels) + number(readings) for labels, readings in cases),
-    'test_vectors/stdout': ''.join(shown(*taken(*case)) for case in cases),
+    'crates/test_vectors/stdin': b''.join(part(labels) + number(readings) for labels, readings in cases),
+    'crates/test_vectors/stdout': ''.join(shown(*taken(*case)) for case in cases),
 }

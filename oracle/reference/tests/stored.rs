@@ -1,15 +1,16 @@
-//! The stored data of the test programs in ../crates, which tests/expected works out in Python, is what this reading gives.
+//! The stored data of the test programs in crates and of tests/replay_test.py, which tests/expected works out in Python, is what
+//! this reading gives.
 use std::fs;
 use std::path::Path;
 
 use reference::*;
 
-fn stored(name: &str) -> Vec<u8> {
-    fs::read(Path::new(env!("CARGO_MANIFEST_DIR")).join("../../crates").join(name)).expect("stored data")
+fn stored(path: &str) -> Vec<u8> {
+    fs::read(Path::new(env!("CARGO_MANIFEST_DIR")).join("../..").join(path)).expect("stored data")
 }
 
-fn lines(name: &str) -> Vec<String> {
-    String::from_utf8(stored(name)).expect("text").lines().map(str::to_string).collect()
+fn lines(path: &str) -> Vec<String> {
+    String::from_utf8(stored(path)).expect("text").lines().map(str::to_string).collect()
 }
 
 fn number(bytes: &mut &[u8]) -> usize {
@@ -32,7 +33,7 @@ fn words(part: &[u8]) -> Vec<u64> {
 #[test]
 fn vecop_prints() {
     for program in ["vecop", "test_vecop"] {
-        let (given, mut printed) = (stored(&format!("{program}/stdin")), Vec::new());
+        let (given, mut printed) = (stored(&format!("crates/{program}/stdin")), Vec::new());
         let mut rest = given.as_slice();
         if program == "vecop" {
             printed = vecop(rest);
@@ -44,7 +45,7 @@ fn vecop_prints() {
             rest = after;
         }
         assert!(rest.is_empty());
-        let (printed, expected) = (String::from_utf8(printed).expect("text"), lines(&format!("{program}/stdout")));
+        let (printed, expected) = (String::from_utf8(printed).expect("text"), lines(&format!("crates/{program}/stdout")));
         for (k, (ours, theirs)) in printed.lines().zip(&expected).enumerate() {
             assert_eq!(ours, theirs, "{program}, line {k}");
         }
@@ -54,9 +55,9 @@ fn vecop_prints() {
 
 #[test]
 fn queries_are_taken() {
-    let given = stored("test_query/stdin");
+    let given = stored("crates/test_query/stdin");
     let rest = &mut given.as_slice();
-    for line in lines("test_query/stdout") {
+    for line in lines("crates/test_query/stdout") {
         match take_query(part(rest)) {
             Ok(q) => assert!(line.starts_with("asked ") && line.ends_with(&format!(" {}", q.allowance)), "{line}"),
             Err(r) => assert_eq!(line, format!("refused {} {} {}", r.number, r.fields[0], r.fields[1])),
@@ -68,9 +69,9 @@ fn queries_are_taken() {
 /// Of the operators' cases only that they are read: `what` is 1 for a merge.
 #[test]
 fn rows_are_merged() {
-    let given = stored("test_binaryop/stdin");
+    let given = stored("crates/test_binaryop/stdin");
     let rest = &mut given.as_slice();
-    for line in lines("test_binaryop/stdout") {
+    for line in lines("crates/test_binaryop/stdout") {
         let (&[what, allowance, ..], after) = rest.split_first_chunk::<4>().expect("a case");
         *rest = after;
         let lengths = [number(rest), number(rest)];
@@ -95,7 +96,7 @@ fn rows_are_merged() {
 /// The positions that the program prints behind `at` are its own.
 #[test]
 fn vectors_are_taken() {
-    let (given, expected) = (stored("test_vectors/stdin"), lines("test_vectors/stdout"));
+    let (given, expected) = (stored("crates/test_vectors/stdin"), lines("crates/test_vectors/stdout"));
     let mut rest = given.as_slice();
     for line in expected {
         let labels = part(&mut rest);
@@ -131,9 +132,10 @@ fn replayed(name: &str, case: &[u8]) {
 
 #[test]
 fn examples_are_replayed() {
-    let given = stored("test_replay/stdin");
+    let given = stored("tests/replayed.cases");
     let rest = &mut given.as_slice();
-    for k in 0..number(rest) {
+    let sample = number(rest);
+    for k in 0..sample {
         replayed(&format!("case {k} of the sample"), part(rest));
     }
     let mut examples = 0;
@@ -142,5 +144,5 @@ fn examples_are_replayed() {
         replayed(&name, part(rest));
         examples += 1;
     }
-    assert_eq!(examples + 1, lines("test_replay/stdout").len());
+    assert_eq!((sample, examples), (576, 385));
 }

@@ -1,4 +1,4 @@
-//! The fixed sample of the Rust's answers, for test programs that have no Rust at hand. Each case is one where the Rust is the
+//! The fixed sample of the Rust's answers, for tests that have no Rust at hand. Each case is one where the Rust is the
 //! measure and gives what the reference gives; what is written is the reference's outcome, since order, the bits of a made NaN
 //! and the places of a duplicate are 01's alone. oracle/README.md has the format of both files.
 use std::collections::BTreeMap;
