@@ -2,6 +2,7 @@ pub mod Limits
 pub mod Lists
 pub mod Reading
 pub mod Row
+pub mod Numerals
 pub mod Labels
 pub mod Record
 pub mod Edits

@@ -1,20 +1,20 @@
 -- How long a text is at most: 3 bytes a label byte, 17 a reading, and the first line. Assumes nothing.
-use Prim.Native.Nat.{ℕ, zero, suc, _+_, _*_, _/_, _≤_}
+use Prim.Native.Nat.{ℕ, zero, suc, _+_, _*_, _≤_}
 use mathlib.Core.Path.{_≡_, refl, sym, ap, _∙_}
 use mathlib.Core.List.{List, [], _∷_, _++_}
 use native.Mathlib.Omega.{arith}
 use lib.ListN.{length, take, drop, length-append, take-append-drop}
-use lib.Dec.{ltb}
 use Rattle.model.specs.Lists.{cases}
 use Rattle.model.specs.Labels.{Tag, Labels}
 use Rattle.model.specs.Vector.{Shape}
 use Rattle.model.specs.Record.{Decoded, decoded, cut, badKey, decode, encodeField, encodeTags, encode}
 use Rattle.model.specs.Laws.Record.{decode-is}
-use Rattle.vecop_run.specs.label_text.Numerals.{digitCount, decimal}
+use Rattle.model.specs.Numerals.{decimal}
+use Rattle.numerals.proofs.Digits.{digits-length}
+use Rattle.numerals.proofs.Counts.{decimal-most}
 use Rattle.vecop_run.specs.label_text.LabelText.{isPlain, escaped, escapedAll, tagText, moreTags, tagsText, bracedTags, labelsText}
 use Rattle.vecop_run.specs.outcome_text.Text.{readingText, rowText, lineText, onRecord, linesText, twoNumbers}
 use Rattle.vecop_run.specs.outcome_text.Text.{numberText, sizesText, answerText, refusalText}
-use Rattle.vecop_run.proofs.label_text.Numerals.{digits-length}
 
 escaped-size : (b : ℕ) → length (escaped b) ≤ 3
 unfolding escaped
@@ -110,17 +110,6 @@ lines-size (suc n) p x y = go (decode x) refl (λ rest. lines-size n p rest (dro
     go cut e h = omega arith
     go badKey e h = omega arith
 
-count-size : (k n : ℕ) → digitCount k n ≤ k
-unfolding digitCount
-count-size zero n = omega arith
-count-size (suc k) n =
-    cases (ltb n 10)
-    (λ e. rw e (omega arith))
-    (λ e. rw e (omega (arith, count-size k (n / 10))))
-
-decimal-size : (n : ℕ) → length (decimal n) ≤ 20
-decimal-size n = omega (arith, digits-length 10 (digitCount 20 n) n, count-size 20 n)
-
 two-size : (a b : ℕ) → length (twoNumbers a b) ≤ 42
 unfolding twoNumbers
 two-size a b =
@@ -128,13 +117,13 @@ two-size a b =
       arith,
       length-append (decimal a) ((32 ∷ []) ++ (decimal b ++ (10 ∷ []))),
       length-append (decimal b) (10 ∷ []),
-      decimal-size a,
-      decimal-size b,
+      decimal-most a,
+      decimal-most b,
     )
 
 number-size : (a : ℕ) → length (numberText a) ≤ 21
 unfolding numberText
-number-size a = omega (arith, length-append (decimal a) (32 ∷ []), decimal-size a)
+number-size a = omega (arith, length-append (decimal a) (32 ∷ []), decimal-most a)
 
 sizes-size : (n : ℕ) (shape : Shape) → length (sizesText n shape) ≤ 84
 unfolding sizesText

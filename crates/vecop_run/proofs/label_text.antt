@@ -1,5 +1,3 @@
-pub mod Runs
 pub mod Bytes
-pub mod Numerals
 pub mod Texts
 pub mod Walks

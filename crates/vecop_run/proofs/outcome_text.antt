@@ -1,4 +1,3 @@
-pub mod Counts
 pub mod Texts
 pub mod Lines
 pub mod Outcomes

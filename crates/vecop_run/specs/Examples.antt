@@ -7,7 +7,7 @@ use Rattle.semantics.specs.Call.{refused}
 use Rattle.semantics.specs.Computing.{computing}
 use Rattle.vecop_run.specs.frame.Frames.{readPart, framed}
 use Rattle.vecop_run.specs.frame.Sides.{wordsIn, readingsIn}
-use Rattle.vecop_run.specs.label_text.Numerals.{digits, digitCount, decimal}
+use Rattle.model.specs.Numerals.{decimal}
 use Rattle.vecop_run.specs.label_text.LabelText.{among, escaped, tagText, moreTags, bracedTags, labelsText}
 use Rattle.vecop_run.specs.outcome_text.Text.{readingText, lineText, linesText, twoNumbers, numberText, sizesText}
 use Rattle.vecop_run.specs.outcome_text.Text.{answerText, refusalText, unreadableText, printed}
@@ -15,7 +15,7 @@ use Rattle.vecop_run.specs.Vecop.{vecopText}
 
 -- a theorem that computes a text has `texts` on its `unfolding` line
 unfoldable texts : Unit {0}
-unfolding computing readPart framed wordsIn readingsIn digits digitCount among escaped tagText moreTags bracedTags labelsText
+unfolding computing readPart framed wordsIn readingsIn among escaped tagText moreTags bracedTags labelsText
     readingText lineText linesText twoNumbers numberText sizesText answerText refusalText unreadableText
 texts = tt
 

@@ -1,46 +1,18 @@
-// A number's digits and a record's labels as the program prints them, written into a lent buffer.
+// A record's labels as the program prints them, written into a lent buffer.
 use fields::Place;
+use numerals::put_digits;
 use record_tags::Next;
 use writing::put_byte;
 use writing::put_bytes;
 ghost use mathlib.Core.Path.{_≡_};
 ghost use mathlib.Core.List.{[], _∷_, _++_};
-ghost use Prim.Native.Nat.{_+_, _≤_, _<_};
+ghost use Prim.Native.Nat.{_+_, _≤_};
 ghost use lib.ListN.{length, drop};
 ghost use Rattle.writing.specs.Written.{Put};
 ghost use Rattle.record_tags.specs.Lenient.{tagsUpTo, labelsOf};
-ghost use Rattle.vecop_run.specs.label_text.Numerals.{digit, digits, hexadecimal};
+ghost use Rattle.model.specs.Numerals.{hexadecimal};
 ghost use Rattle.vecop_run.specs.label_text.LabelText.{isSpecial, isPlain, escaped, escapedAll, tagOf, tagText, moreTags, tagsText};
 ghost use Rattle.vecop_run.specs.label_text.LabelText.{bracedTags, labelsText};
-
-fn digit_of(d: u64) -> u8
-    requires { ⌜ d < 16 ⌝ }
-    ensures { λ r. ⌜ r ≡ digit d ⌝ }
-{
-    if d < 10 {
-        (48 + d) as u8
-    } else {
-        (87 + d) as u8
-    }
-}
-
-// Writes the last k digits of a number to a base, from the last to the first.
-pub(crate) fn put_digits(out: &mut [u8], at: usize, base: u64, k: usize, n: u64) -> usize
-    requires { ⌜ at + length (digits base k n) ≤ length (now out) ⌝ }
-    requires { ⌜ 1 < base ⌝ }
-    requires { ⌜ base ≤ 16 ⌝ }
-    ensures { λ r. ⌜ Put (now (out .entry)) at (digits base k n) (now (out .exit)) r ⌝ }
-{
-    let mut i = k;
-    let mut rest = n;
-    while 0 < i {
-        i -= 1;
-        let o = at + i;
-        out[o] = digit_of(rest % base);
-        rest /= base;
-    }
-    at + k
-}
 
 fn is_special(b: u8) -> bool
     ensures { λ r. ⌜ r ≡ isSpecial b ⌝ }

@@ -1,6 +1,6 @@
 // What the program prints for an input.
 mod frame; // the input's three parts, and the parts of a vector
-mod label_text; // a number's digits, and a record's labels
+mod label_text; // a record's labels
 mod outcome_text; // an outcome, and `unreadable`
 
 ghost use mathlib.Core.Path.{_≡_};

@@ -1,45 +1,22 @@
 // What the program prints for an outcome, written into a lent buffer.
-use crate::label_text::put_digits;
 use crate::label_text::put_labels;
 use answers::Outcome;
 use answers::Told;
 use label_records::Record;
+use numerals::put_decimal;
+use numerals::put_digits;
 use side_parts::Shape;
 use writing::put_byte;
 use writing::put_bytes;
-ghost use mathlib.Core.Path.{_≡_};
 ghost use Prim.Native.Nat.{_+_, _*_, _≤_};
 ghost use lib.ListN.{length};
 ghost use Rattle.writing.specs.Written.{Put};
 ghost use Rattle.record_tags.specs.Lenient.{labelsOf};
 ghost use Rattle.side_parts.specs.Lent.{shapeOf};
 ghost use Rattle.answers.specs.Outcomes.{told};
-ghost use Rattle.vecop_run.specs.label_text.Numerals.{digitCount, decimal};
 ghost use Rattle.vecop_run.specs.outcome_text.Text.{readingText, rowText, lineText, linesText, twoNumbers};
 ghost use Rattle.vecop_run.specs.outcome_text.Text.{numberText, sizesText, answerText, refusalText, unreadableText};
 ghost use Rattle.vecop_run.specs.outcome_text.Told.{toldText, Within};
-
-fn digit_count(n: usize) -> usize
-    ensures { λ r. ⌜ r ≡ digitCount 20 n ⌝ }
-{
-    let mut k: usize = 0;
-    let mut rest = n;
-    while k < 20 {
-        if rest < 10 {
-            return k + 1;
-        }
-        rest /= 10;
-        k += 1;
-    }
-    k
-}
-
-fn put_decimal(out: &mut [u8], at: usize, n: usize) -> usize
-    requires { ⌜ at + length (decimal n) ≤ length (now out) ⌝ }
-    ensures { λ r. ⌜ Put (now (out .entry)) at (decimal n) (now (out .exit)) r ⌝ }
-{
-    put_digits(out, at, 10, digit_count(n), n as u64)
-}
 
 fn put_reading(out: &mut [u8], at: usize, x: u64) -> usize
     requires { ⌜ at + length (readingText x) ≤ length (now out) ⌝ }
@@ -108,9 +85,9 @@ fn put_two(out: &mut [u8], at: usize, a: usize, b: usize) -> usize
     requires { ⌜ at + length (twoNumbers a b) ≤ length (now out) ⌝ }
     ensures { λ r. ⌜ Put (now (out .entry)) at (twoNumbers a b) (now (out .exit)) r ⌝ }
 {
-    let p = put_decimal(out, at, a);
+    let p = put_decimal(out, at, a as u64);
     let q = put_byte(out, p, b' ');
-    let r = put_decimal(out, q, b);
+    let r = put_decimal(out, q, b as u64);
     put_byte(out, r, b'\n')
 }
 
@@ -118,7 +95,7 @@ fn put_number(out: &mut [u8], at: usize, a: usize) -> usize
     requires { ⌜ at + length (numberText a) ≤ length (now out) ⌝ }
     ensures { λ r. ⌜ Put (now (out .entry)) at (numberText a) (now (out .exit)) r ⌝ }
 {
-    let p = put_decimal(out, at, a);
+    let p = put_decimal(out, at, a as u64);
     put_byte(out, p, b' ')
 }
 

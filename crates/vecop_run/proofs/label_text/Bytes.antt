@@ -7,12 +7,12 @@ use mathlib.Core.List.{List, [], _∷_}
 use lib.Dec.{eqb}
 use lib.ListN.{length, getD}
 use types.Run.{OneOf}
-use borrow.Author.Tests.{eq-eqb, ne-eqb, le-leb, lt-leb, lt-ltb, le-ltb}
+use borrow.Author.Tests.{eq-eqb, ne-eqb, le-leb, lt-leb}
 use Rattle.model.specs.Lists.{cases}
-use Rattle.vecop_run.specs.label_text.Numerals.{digit, hexadecimal}
+use Rattle.model.specs.Numerals.{hexadecimal}
 use Rattle.vecop_run.specs.label_text.LabelText.{among, isSpecial, isPlain, escaped}
 use Rattle.writing.specs.Written.{Put}
-use Rattle.vecop_run.proofs.label_text.Runs.{GatherLeft, gather-room}
+use Rattle.writing.proofs.Runs.{GatherLeft, gather-room}
 
 pub in-keys : (ks : List ℕ) (b : ℕ) → OneOf ks b → true ≡ among ks b
 unfolding among
@@ -36,12 +36,6 @@ module _ (b : ℕ) where
 
   pub plain-between : 33 ≤ b → b ≤ 126 → (r : Bool) → r ≡ isSpecial b → not r ≡ isPlain b
   plain-between g h r e = rw (le-leb 33 b g, le-leb b 126 h, e)
-
-  pub digit-low : b < 10 → 48 + b ≡ digit b
-  digit-low h = rw (lt-ltb b 10 h)
-
-  pub digit-high : 10 ≤ b → 87 + b ≡ digit b
-  digit-high h = rw (le-ltb b 10 h)
 
 -- a byte as it is, or with a percent sign
 module _ (b : ℕ) (d : List ℕ) (at : ℕ) (x : Bool) (hx : x ≡ isPlain b) where

@@ -5,9 +5,9 @@ use lib.ListN.{length}
 use Rattle.model.specs.Labels.{Tag, Labels}
 use Rattle.writing.specs.Written.{Put}
 use Rattle.writing.proofs.Written.{Rest, rest-start}
-use Rattle.vecop_run.specs.label_text.Numerals.{digits, hexadecimal}
+use Rattle.model.specs.Numerals.{digits, hexadecimal}
 use Rattle.vecop_run.specs.label_text.LabelText.{escapedAll, tagOf, tagText, tagsText, bracedTags, labelsText}
-use Rattle.vecop_run.proofs.label_text.Runs.{piece-room, piece-put, last-room, last-put}
+use Rattle.writing.proofs.Runs.{piece-room, piece-put, last-room, last-put}
 
 -- `%` and two digits
 module _ (b : ℕ) (d : List ℕ) (at : ℕ) (room : at + length (37 ∷ hexadecimal 2 b) ≤ length d) where

@@ -1,10 +1,7 @@
 -- A record's name and tags, walked and written. Assumes nothing.
-use Prim.Native.Nat.{ℕ, _≤_, _<_, _+_, _-_, _^_}
+use Prim.Native.Nat.{ℕ, _≤_, _+_, _-_}
 use mathlib.Core.Path.{_≡_, refl}
 use mathlib.Core.List.{List, [], _∷_, _++_}
-use native.Mathlib.Omega.{arith}
-use mir.Syntax.{w64}
-use mir.Val.{Fits}
 use lib.ListN.{length, take, drop}
 use Rattle.model.specs.Labels.{Tag}
 use Rattle.fields.specs.Fields.{fieldAt}
@@ -16,11 +13,11 @@ use Rattle.record_tags.specs.Cursors.{NextAt, TagsOf, tagAt, every}
 use Rattle.record_tags.specs.declared.Next.{Next}
 use Rattle.record_tags.specs.declared.Next.the-variants as N
 use Rattle.record_tags.specs.declared.Tags.{Tags}
-use Rattle.record_tags.proofs.Cursors.{next-stands, next-tags, next-ended}
+use Rattle.record_tags.proofs.Cursors.{next-tags, next-ended}
 use Rattle.writing.specs.Written.{Put}
 use Rattle.writing.proofs.Written.{Rest, rest-start, rest-done, rest-as}
 use Rattle.vecop_run.specs.label_text.LabelText.{escapedAll, tagText, moreTags, tagsText, bracedTags}
-use Rattle.vecop_run.proofs.label_text.Runs.{piece-room, piece-put, last-room, last-put}
+use Rattle.writing.proofs.Runs.{piece-room, piece-put, last-room, last-put}
 use Rattle.vecop_run.proofs.label_text.Texts.{braced-1, braced-2, braced-3, braced-put}
 
 -- nothing is written
@@ -48,14 +45,6 @@ module _ (s : List ℕ) (x : Place) (hx : x ≡ fieldAt s 0) (d : List ℕ) (at 
 
     pub name-none : at + length (escapedAll (labelsOf s .name)) ≤ length d → Put d at (escapedAll (labelsOf s .name)) d at
     name-none h = put-nothing d at (escapedAll (labelsOf s .name)) (rw unnamed) h
-
--- where the value of a tag that was found stands
-module _ (s : List ℕ) (n p : ℕ) (x : Next) (hx : NextAt every s n p x) (b a e z m : ℕ) (ex : x ≡ N.Tag b a e z m) where
-  pub value-order : e + 1 ≤ z
-  value-order = next-stands every s n p x hx b a e z m ex .valueOrder
-
-  pub value-fits : length s < 2 ^ 64 → Fits w64 (e + 1)
-  value-fits h = omega (arith, value-order, next-stands every s n p x hx b a e z m ex .within, h)
 
 -- the loop of `put_more_tags`
 pub record MoreLeft (s : List ℕ) (n from : ℕ) (d₀ : List ℕ) (at : ℕ) (d : List ℕ) (o m p : ℕ) : Type 0 where

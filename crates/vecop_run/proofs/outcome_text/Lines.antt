@@ -18,7 +18,7 @@ use Rattle.label_records.specs.declared.Record.the-variants.{Ok, Cut, BadKey}
 use Rattle.writing.specs.Written.{Put}
 use Rattle.writing.proofs.Written.{Rest, rest-start, rest-done, rest-as}
 use Rattle.vecop_run.specs.outcome_text.Text.{readingText, lineText, linesText}
-use Rattle.vecop_run.proofs.label_text.Runs.{piece-room, piece-put, GatherLeft, gather-room}
+use Rattle.writing.proofs.Runs.{piece-room, piece-put, GatherLeft, gather-room}
 
 pub record LinesLeft (n p : ℕ) (x y d₀ : List ℕ) (at : ℕ) (d : List ℕ) (o from row left : ℕ) : Type 0 where
   pub rows : left * p + row ≤ length y

@@ -8,11 +8,11 @@ use Rattle.side_parts.specs.declared.Shape.{Shape}
 use Rattle.side_parts.specs.Lent.{shapeOf}
 use Rattle.writing.specs.Written.{Put}
 use Rattle.writing.proofs.Written.{Rest, rest-start}
-use Rattle.vecop_run.specs.label_text.Numerals.{digits, decimal}
+use Rattle.model.specs.Numerals.{digits, decimal}
 use Rattle.vecop_run.specs.label_text.LabelText.{labelsText}
 use Rattle.vecop_run.specs.outcome_text.Text.{readingText, rowText, lineText, linesText, twoNumbers}
 use Rattle.vecop_run.specs.outcome_text.Text.{numberText, sizesText, answerText, refusalText}
-use Rattle.vecop_run.proofs.label_text.Runs.{piece-room, piece-put, last-room, last-put}
+use Rattle.writing.proofs.Runs.{piece-room, piece-put, last-room, last-put}
 
 -- a reading
 module _ (x : ℕ) (d : List ℕ) (at : ℕ) (room : at + length (readingText x) ≤ length d) where

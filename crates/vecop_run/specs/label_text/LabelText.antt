@@ -5,7 +5,7 @@ use mathlib.Core.List.{List, [], _∷_, _++_}
 use lib.Dec.{leb, eqb}
 use Rattle.model.specs.Lists.{gather}
 use Rattle.model.specs.Labels.{Tag, Labels}
-use Rattle.vecop_run.specs.label_text.Numerals.{hexadecimal}
+use Rattle.model.specs.Numerals.{hexadecimal}
 
 unfoldable pub among : List ℕ → ℕ → Bool
 among [] b = false

@@ -7,7 +7,7 @@ use Rattle.model.specs.Labels.{Labels}
 use Rattle.model.specs.Vector.{Shape}
 use Rattle.model.specs.Record.{Decoded, decoded, cut, badKey, decode}
 use Rattle.semantics.specs.Call.{Outcome, refused, answered}
-use Rattle.vecop_run.specs.label_text.Numerals.{decimal, hexadecimal}
+use Rattle.model.specs.Numerals.{decimal, hexadecimal}
 use Rattle.vecop_run.specs.label_text.LabelText.{labelsText}
 
 -- 01: after one space each the readings' bits in sixteen lowercase hexadecimal digits

@@ -3,7 +3,7 @@ use borrow.Author.Needs.{needs}
 use Rattle.vecop_run.specs.label_text.LabelText.{escaped}
 use lib.ListN.{length}
 use Prim.Native.Nat.{_-_}
-use Rattle.vecop_run.proofs.label_text.Runs.{GatherLeft, gather-start, gather-turn, gather-done}
+use Rattle.writing.proofs.Runs.{GatherLeft, gather-start, gather-turn, gather-done}
 use Rattle.vecop_run.proofs.label_text.Bytes.{field-room}
 use Rattle.vecop_run.proofs.label_text.put_field.Statement.{statement}
 use Rattle.vecop_run.proofs.label_text.put_field.Tie as tie

@@ -1,7 +1,7 @@
 -- `label_text::put_more_tags` meets its contract. Assumes nothing.
 use borrow.Author.Needs.{needs}
-use Rattle.record_tags.proofs.Cursors.{key-order, key-within, span-within, next-fewer}
-use Rattle.vecop_run.proofs.label_text.Walks.{MoreLeft, more-start, more-done, more-room, more-turn, value-order, value-fits}
+use Rattle.record_tags.proofs.Cursors.{key-order, key-within, span-within, next-fewer, value-order, value-fits}
+use Rattle.vecop_run.proofs.label_text.Walks.{MoreLeft, more-start, more-done, more-room, more-turn}
 use Rattle.vecop_run.proofs.label_text.put_more_tags.Statement.{statement}
 use Rattle.vecop_run.proofs.label_text.put_more_tags.Tie as tie
 

@@ -1,7 +1,7 @@
 -- `label_text::put_tags` meets its contract. Assumes nothing.
 use borrow.Author.Needs.{needs}
-use Rattle.record_tags.proofs.Cursors.{key-order, key-within, span-within}
-use Rattle.vecop_run.proofs.label_text.Walks.{tags-none, tags-room, tags-more-room, tags-put, value-order, value-fits}
+use Rattle.record_tags.proofs.Cursors.{key-order, key-within, span-within, value-order, value-fits}
+use Rattle.vecop_run.proofs.label_text.Walks.{tags-none, tags-room, tags-more-room, tags-put}
 use Rattle.vecop_run.proofs.label_text.put_tags.Statement.{statement}
 use Rattle.vecop_run.proofs.label_text.put_tags.Tie as tie
 

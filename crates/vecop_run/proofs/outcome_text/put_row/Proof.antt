@@ -3,7 +3,7 @@ use borrow.Author.Needs.{needs}
 use Rattle.vecop_run.specs.outcome_text.Text.{readingText}
 use lib.ListN.{length}
 use Prim.Native.Nat.{_-_}
-use Rattle.vecop_run.proofs.label_text.Runs.{GatherLeft, gather-start, gather-turn, gather-done}
+use Rattle.writing.proofs.Runs.{GatherLeft, gather-start, gather-turn, gather-done}
 use Rattle.vecop_run.proofs.outcome_text.Lines.{row-room}
 use Rattle.vecop_run.proofs.outcome_text.put_row.Statement.{statement}
 use Rattle.vecop_run.proofs.outcome_text.put_row.Tie as tie

@@ -1,8 +1,8 @@
--- `label_text::digit_of` meets its contract. Assumes nothing.
+-- `numerals::digit_of` meets its contract. Assumes nothing.
 use borrow.Author.Needs.{needs}
-use Rattle.vecop_run.proofs.label_text.Bytes.{digit-low, digit-high}
-use Rattle.vecop_run.proofs.label_text.digit_of.Statement.{statement}
-use Rattle.vecop_run.proofs.label_text.digit_of.Tie as tie
+use Rattle.numerals.proofs.Digits.{digit-low, digit-high}
+use Rattle.numerals.proofs.digit_of.Statement.{statement}
+use Rattle.numerals.proofs.digit_of.Tie as tie
 
 add-result : tie.Need-add-result
 add-result c = search needs

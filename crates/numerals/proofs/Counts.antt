@@ -1,12 +1,26 @@
 -- Decimal digits, counted. Assumes nothing.
-use Prim.Native.Nat.{ℕ, suc, _≤_, _<_, _+_, _-_, _/_}
+use Prim.Native.Nat.{ℕ, zero, suc, _≤_, _<_, _+_, _-_, _/_}
 use mathlib.Core.Path.{_≡_}
 use mathlib.Core.List.{List}
 use native.Mathlib.Omega.{arith}
+use lib.Dec.{ltb}
 use lib.ListN.{length}
 use borrow.Author.Tests.{lt-ltb, le-ltb}
+use Rattle.model.specs.Lists.{cases}
+use Rattle.model.specs.Numerals.{digits, digitCount, decimal}
 use Rattle.writing.specs.Written.{Put}
-use Rattle.vecop_run.specs.label_text.Numerals.{digits, digitCount, decimal}
+use Rattle.numerals.proofs.Digits.{digits-length}
+
+pub count-most : (k n : ℕ) → digitCount k n ≤ k
+unfolding digitCount
+count-most zero n = omega arith
+count-most (suc k) n = cases (ltb n 10) (λ e. rw e (omega arith)) (λ e. rw e (omega (arith, count-most k (n / 10))))
+
+pub decimal-length : (n : ℕ) → length (decimal n) ≡ digitCount 20 n
+decimal-length n = digits-length 10 (digitCount 20 n) n
+
+pub decimal-most : (n : ℕ) → length (decimal n) ≤ 20
+decimal-most n = omega (arith, decimal-length n, count-most 20 n)
 
 -- `digit_count`
 pub record Counting (n k rest : ℕ) : Type 0 where

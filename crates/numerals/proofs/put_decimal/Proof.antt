@@ -1,8 +1,8 @@
--- `outcome_text::put_decimal` meets its contract. Assumes nothing.
+-- `numerals::put_decimal` meets its contract. Assumes nothing.
 use borrow.Author.Needs.{needs}
-use Rattle.vecop_run.proofs.outcome_text.Counts.{decimal-room, decimal-put}
-use Rattle.vecop_run.proofs.outcome_text.put_decimal.Statement.{statement}
-use Rattle.vecop_run.proofs.outcome_text.put_decimal.Tie as tie
+use Rattle.numerals.proofs.Counts.{decimal-room, decimal-put}
+use Rattle.numerals.proofs.put_decimal.Statement.{statement}
+use Rattle.numerals.proofs.put_decimal.Tie as tie
 
 digit-count-requires : tie.Need-digit-count-requires
 digit-count-requires c κs = search needs

@@ -1,9 +1,9 @@
--- `label_text::put_digits` meets its contract. Assumes nothing.
+-- `numerals::put_digits` meets its contract. Assumes nothing.
 use borrow.Author.Needs.{needs}
-use Rattle.vecop_run.proofs.label_text.Numerals.{digits-end, digits-at}
-use Rattle.vecop_run.proofs.label_text.Numerals.{DigitsLeft, digits-start, digits-turn, digits-done, digits-place, digit-small}
-use Rattle.vecop_run.proofs.label_text.put_digits.Statement.{statement}
-use Rattle.vecop_run.proofs.label_text.put_digits.Tie as tie
+use Rattle.numerals.proofs.Digits.{DigitsLeft, digits-start, digits-turn, digits-done}
+use Rattle.numerals.proofs.Digits.{digit-small, digits-place, digits-at, digits-end}
+use Rattle.numerals.proofs.put_digits.Statement.{statement}
+use Rattle.numerals.proofs.put_digits.Tie as tie
 
 abbrev Inv-loop : tie.InvT-loop
 Inv-loop out₀ at base k n i₀ rest₀ out i rest = DigitsLeft base k n out₀ at out i rest

@@ -1,9 +1,9 @@
--- `outcome_text::digit_count` meets its contract. Assumes nothing.
+-- `numerals::digit_count` meets its contract. Assumes nothing.
 use borrow.Author.Needs.{needs}
 use Prim.Native.Nat.{_-_}
-use Rattle.vecop_run.proofs.outcome_text.Counts.{Counting, count-start, count-turn, count-last, count-full}
-use Rattle.vecop_run.proofs.outcome_text.digit_count.Statement.{statement}
-use Rattle.vecop_run.proofs.outcome_text.digit_count.Tie as tie
+use Rattle.numerals.proofs.Counts.{Counting, count-start, count-turn, count-last, count-full}
+use Rattle.numerals.proofs.digit_count.Statement.{statement}
+use Rattle.numerals.proofs.digit_count.Tie as tie
 
 abbrev Inv-loop : tie.InvT-loop
 Inv-loop n k₀ rest₀ k rest = Counting n k rest
