@@ -11,7 +11,7 @@ use Rattle.model.specs.Limits.{maxSeries, sizesLength}
 use Rattle.model.specs.Lists.{All}
 use Rattle.model.specs.Labels.{Labels, Bytes, WellFormed}
 use Rattle.model.specs.Record.{encode}
-use Rattle.model.specs.Vector.{Series, Shape, Vector, Readings, GoodSeries, vector, takeVector, labelPart}
+use Rattle.model.specs.Vector.{Series, Shape, Vector, Readings, GoodSeries, GoodGrid, vector, takeVector, labelPart}
 use Rattle.model.specs.Laws.Vector.{taken-is}
 use Rattle.record_tags.specs.Lenient.{labelsOf, labels-encoded}
 use Rattle.side_parts.specs.Sides.{recordAt, lentSeries}
@@ -107,6 +107,7 @@ pub record Took (side : ℕ) (s x after : List ℕ) (n : ℕ) (shape : Shape) : 
   pub entries : n + 1 ≤ length after
   pub lent : n + 1 ≡ length (take (n + 1) after)
   pub sizes : sizesLength ≤ length s
+  pub grid : GoodGrid shape
   pub held : TakenSide (shape .points) (take (length s - sizesLength) (drop sizesLength s)) (take (n + 1) after) x
   pub vector : takeVector side s x ≡ vector (lentVector shape (take (length s - sizesLength) (drop sizesLength s)) (take (n + 1) after) x)
 
@@ -132,6 +133,7 @@ module _ (side : ℕ) (s x before after : List ℕ) (t : Taken) (into : TakenInt
         entries = omega (arith, few, taken-long s x before after t into, room);
         lent = sym (taken-so .entries);
         sizes = rw (is .labels) (part-long (taken-so .v .shape) (taken-so .v .series));
+        grid = rw (taken-so .on) at (is .valid .grid);
         held = rw (behind-sizes s) (taken-side side s x after n (shapeOf shape) taken-so (bytes-of s bytes) (readings-of x words));
         vector = rw (behind-sizes s) (lent-vector side s x after n (shapeOf shape) taken-so);
       }

@@ -1,6 +1,7 @@
 // The library for callers in C and Rust: functions on numbers and slices.
 use answers::Outcome;
 use answers::Told;
+use export_text::Exported;
 use side_parts::Shape;
 ghost use mathlib.Core.Path.{_≡_};
 ghost use mathlib.Core.List.{[], _∷_};
@@ -8,8 +9,9 @@ ghost use lib.ListN.{length};
 ghost use lib.Seq.{sets};
 ghost use Rattle.semantics.specs.Call.{call};
 ghost use Rattle.semantics.specs.Aggregates.{aggregateCall};
+ghost use Rattle.semantics.specs.Exposition.{export};
 ghost use Rattle.answers.specs.Outcomes.{told};
-ghost use Rattle.nosingcatnip.specs.Reports.{numbersOf, Reported};
+ghost use Rattle.nosingcatnip.specs.Reports.{numbersOf, Reported, exportNumbers, ExportReported};
 
 // What is told of a refusal's shape.
 const NONE: Shape = Shape {
@@ -113,4 +115,46 @@ pub extern "C" fn nosingcatnip_exec_aggregate(
 {
     let outcome = aggregate_vector::exec_aggregate(request, labels, readings, out_labels, out);
     report(outcome, result);
+}
+
+// What an export is in four numbers: number and fields of a refusal, then the length of a text.
+fn report_export(exported: Exported, result: &mut [u64; 4])
+    ensures { λ _. ⌜ now (result .exit) ≡ sets (now (result .entry)) 0 (exportNumbers exported) ⌝ }
+{
+    match exported {
+        Exported::Text { bytes } => put_four(result, 0, 0, 0, bytes),
+        Exported::Refused {
+            number,
+            first,
+            second,
+        } => put_four(result, number, first, second, 0),
+    }
+}
+
+fn put_four(result: &mut [u64; 4], number: usize, first: usize, second: usize, bytes: usize)
+    ensures { λ _. ⌜
+        now (result .exit) ≡ sets (now (result .entry)) 0 (number ∷ first ∷ second ∷ bytes ∷ [])
+        ⌝ }
+{
+    result[0] = number as u64;
+    result[1] = first as u64;
+    result[2] = second as u64;
+    result[3] = bytes as u64;
+}
+
+// Exports a vector as text; all four numbers of the result are written.
+#[no_mangle]
+pub extern "C" fn nosingcatnip_export_text(
+    labels: &[u8],
+    readings: &[u64],
+    out: &mut [u8],
+    result: &mut [u64; 4],
+)
+    ensures { λ _. ⌜
+        ExportReported (export (now (labels .entry)) (now (readings .entry)) (length (now (out .entry))))
+        (now (out .entry)) (now (out .exit)) (now (result .entry)) (now (result .exit))
+        ⌝ }
+{
+    let exported = export_text::export_text(labels, readings, out);
+    report_export(exported, result);
 }

@@ -1,12 +1,12 @@
 -- The tags left at a place, by what the code finds there: `tags_of`, `next_tag`, and a walk that chooses among them.
 -- Assumes nothing.
-use Prim.Native.Nat.{ℕ, zero, suc, _≤_, _<_, _+_, _-_}
+use Prim.Native.Nat.{ℕ, zero, suc, _≤_, _<_, _+_, _-_, _^_}
 use mathlib.Core.Path.{_≡_, refl, sym, ap, _∙_}
 use mathlib.Core.List.{List, [], _∷_, _++_, append-assoc}
 use mathlib.Core.Bool.{Bool, true, false, not, cond}
 use native.Mathlib.Omega.{arith}
 use native.Mathlib.Numerals.{add-one}
-use mir.Syntax.{w8}
+use mir.Syntax.{w8, w64}
 use mir.Val.{Fits}
 use lib.ListN.{length, getD, take, drop, length-append, length-drop, drop-of-length-le}
 use lib.Seq.{drop-cons, take-at}
@@ -158,6 +158,12 @@ module _ (f : List Tag → List Tag) (s : List ℕ) (n p : ℕ) (x : Next) (hx :
 
     pub key-within : e ≤ length s
     key-within = omega (arith, found .0 .valueOrder, found .0 .within)
+
+    pub value-order : e + 1 ≤ z
+    value-order = found .0 .valueOrder
+
+    pub value-fits : length s < 2 ^ 64 → Fits w64 (e + 1)
+    value-fits h = omega (arith, found .0 .valueOrder, found .0 .within)
 
     pub span-order : b ≤ z
     span-order = omega (arith, found .0 .first, found .0 .keyOrder, found .0 .valueOrder)

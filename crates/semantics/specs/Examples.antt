@@ -5,3 +5,4 @@ pub mod Joins
 pub mod Allowances
 pub mod SetRules
 pub mod Aggregates
+pub mod Exports

@@ -4,6 +4,7 @@ pub mod Rules
 pub mod Binop
 pub mod Call
 pub mod Aggregates
+pub mod Exposition
 pub mod Computing
 pub mod Examples
 pub mod Laws

@@ -4,3 +4,4 @@ pub mod Dealing
 pub mod Partition
 pub mod Prometheus
 pub mod Aggregates
+pub mod Exports

@@ -5,6 +5,7 @@ pub mod Dealing
 pub mod Partition
 pub mod Valid
 pub mod Aggregates
+pub mod Exports
 pub mod Prometheus
 pub mod Joins
 pub mod Settled

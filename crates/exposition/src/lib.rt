@@ -1,0 +1,1 @@
+// The text exposition format: definitions and their laws, in specs/. No code.
