@@ -2,6 +2,7 @@
 NOSINGCATNIP_LIBRARY names. With that empty, tests that need the library are left out."""
 import importlib.machinery
 import importlib.util
+import io
 import os
 import sys
 import unittest
@@ -19,3 +20,13 @@ def program(name):
     module = importlib.util.module_from_spec(importlib.util.spec_from_loader(name, loader))
     loader.exec_module(module)
     return module
+
+
+class Printed(io.TextIOWrapper):
+    """A standard output in memory, with bytes beneath the text as a program's own has."""
+
+    def __init__(self):
+        super().__init__(io.BytesIO(), encoding='utf-8', newline='\n', write_through=True)
+
+    def getvalue(self):
+        return self.buffer.getvalue().decode()

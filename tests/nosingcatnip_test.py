@@ -18,7 +18,7 @@ from array import array
 import built
 import nosingcatnip
 import wire
-from nosingcatnip import Refusal, Vector, encode_aggregation, encode_query, exec_aggregate, exec_binop
+from nosingcatnip import Refusal, Vector, encode_aggregation, encode_query, exec_aggregate, exec_binop, export_text
 
 HOUR = nosingcatnip.HOUR
 
@@ -257,6 +257,40 @@ class Calls(unittest.TestCase):
                 self.assertEqual((answer.start, answer.step), (60000, 1000))
         self.assertEqual(len(exec_aggregate('sum', Vector([], [], points=4))), 0)
 
+    def test_texts(self):
+        labels = [{'__name__': 'fed', 'press': 'A', 'form': 'é "1"\\\n'}, {'__name__': ':idle'}, {'__name__': 'x', 'a': ''}]
+        rows = [[1000, None, 0.0625], [None] * 3, [-0.0625, -0.0, 2**40 - 0.5]]
+        text = ('fed{form="é \\"1\\"\\\\\\n",press="A"} 1000.000 7\nfed{form="é \\"1\\"\\\\\\n",press="A"} 0.063 11\n'
+                'x{a=""} -0.063 7\nx{a=""} 0.000 9\nx{a=""} 1099511627775.500 11\n').encode()
+        vector = Vector(labels, rows, 7, 2)
+        self.assertEqual(export_text(vector), text)
+        for more in 0, 1, 9:
+            out = bytearray(b'\xbb' * (len(text) + more))
+            self.assertEqual((bytes(export_text(vector, out)), bytes(out)), (text, text + b'\xbb' * more))
+        for room in 0, 1, len(text) - 1:
+            out = bytearray(b'\xbb' * room)
+            with self.assertRaises(Refusal) as told:
+                export_text(vector, out)
+            self.assertEqual((told.exception.number, told.exception.fields, bytes(out)), (10, (0, 0), b'\xbb' * room))
+        for nothing in Vector([], [], points=3), Vector([{'__name__': 'x'}], [[]]), Vector([{'__name__': 'x'}], [[None, math.nan]]):
+            self.assertEqual((export_text(nothing), bytes(export_text(nothing, bytearray()))), (b'', b''))
+        answer = exec_binop('/ keep_metric_names', FED, WASTE)
+        self.assertEqual(export_text(answer), b'fed{press="A"} 5.000 0\nfed{press="A"} 2.000 7200000\n')
+        rows = array('d', range(3))
+        with self.assertRaisesRegex(ValueError, 'lies over another part'):
+            export_text(Vector([{'__name__': 'x'}], rows), memoryview(rows).cast('B'))
+
+    def test_the_longest_texts_have_room(self):
+        """The longest name, tags, values and times, each byte of a value escaped; 512 series; and 1,024 points."""
+        tags = {'k' * 255: '\\' * 255, 'l': '\n' * 255, **{f'm{i}': '"' for i in range(30)}}
+        grid = nosingcatnip.MAX_START, nosingcatnip.MAX_STEP
+        most = -math.nextafter(2**40, 0)
+        tagged, bare = {'__name__': 'n' * 255, **tags}, [{'__name__': 'n'}] * 512
+        for labels, points in ([tagged], 1024), ([tagged] * 50, 3), (bare, 2), ([{'__name__': 'n', 'k': ''}] * 512, 1):
+            lines = export_text(Vector(labels, [[most] * points] * len(labels), *grid)).splitlines()
+            self.assertEqual(len(lines), len(labels) * points)
+            self.assertEqual(lines[points - 1].split()[-2:], [b'-1099511627776.000', str(grid[0] + (points - 1) * grid[1]).encode()])
+
     def test_the_largest_aggregate(self):
         """512 series of 1,024 points in 8 groups, against a plain reading."""
         random.seed(8)
@@ -383,6 +417,43 @@ class Refusals(unittest.TestCase):
         told(5, (0, 0), 'the vector has 3 readings; 1 series of 2 points have 2', 'sum', Vector([{}], array('d', [1, 2, 3]), points=2))
         told(11, (0, 0), 'the vector has the step 0; a step is 1 to 86400000, in milliseconds', 'sum', Vector([], [], step=0))
         told(10, (0, 0), 'the answer is longer than what was lent for it', 'sum', one, out=array('d'))
+
+    def test_texts(self):
+        def told(number, place, words, labels, rows, *grid, **lent):
+            with self.assertRaises(Refusal) as told:
+                export_text(Vector(labels, rows, *grid), **lent)
+            self.assertEqual((told.exception.number, told.exception.fields, str(told.exception)), (number, (0, place), words))
+        name = 'a name has ASCII letters, digits, _ and :, and no digit first'
+        key = 'a key has ASCII letters, digits and _, and no digit first'
+        for labels, shown, words in [
+            ({}, '{}', 'it has no name'),
+            ({'__name__': '', 'a': '1'}, '{a="1"}', 'it has no name'),
+            ({'__name__': '0x'}, '0x{}', f"byte 1 of its name is '0'; {name}"),
+            ({'__name__': 'a b'}, 'a b{}', f"byte 2 of its name is ' '; {name}"),
+            ({'__name__': 'aé€'}, 'aé€{}', f"byte 2 of its name is hexadecimal c3, the first of 'é'; {name}"),
+            ({'__name__': b'a\xe9b'}, 'a\\xe9b{}', f'byte 2 of its name is hexadecimal e9; {name}'),
+            ({'__name__': 'a\0'}, 'a\0{}', f'byte 2 of its name is hexadecimal 00; {name}'),
+            ({'__name__': 'a', 'b': '', 'c:d': ''}, 'a{b="",c:d=""}', f'byte 2 of its key "c:d" is \':\'; {key}'),
+            ({'__name__': 'a', '1': ''}, 'a{1=""}', f'byte 1 of its key "1" is \'1\'; {key}'),
+            ({'__name__': 'a', 'b': b'\xff', 'c.': ''}, r'a{b="\\xff",c.=""}',
+             'the value of its tag b is not UTF-8 from byte 1 on, hexadecimal ff'),
+            ({'__name__': 'a', 'b': b'x\xed\xa0\x80'}, r'a{b="x\\xed\\xa0\\x80"}',
+             'the value of its tag b is not UTF-8 from byte 2 on, hexadecimal ed'),
+        ]:
+            with self.subTest(shown):
+                told(15, 1, f'series 2, {shown}, cannot be exported: {words}', [{'__name__': 'x'}, labels, {}], [[1], [2**41], [1]])
+                told(15, 0, f'series 1, {shown}, cannot be exported: {words}', [labels], [[None]], out=bytearray())
+        for reading, shown in (2**40, '1099511627776'), (-math.inf, '-inf'), (-2.5e300, '-2.5e+300'):
+            words = f'its reading 3, at 11 ms, is {shown}; an exported reading is below 1099511627776, 2 to the 40th, in size'
+            told(16, 1, 'series 2, b{}, cannot be exported: ' + words, [{'__name__': 'a'}, {'__name__': 'b'}, {}],
+                 [[1, 2, 3], [1, None, reading], [1, 2, 3]], 7, 2)
+        told(10, 0, 'the text is longer than what was lent for it', [{'__name__': 'a'}], [[1]], out=bytearray(9))
+        told(3, 0, 'the vector has 513 series; a vector has at most 512', [{}] * 513, [[]] * 513)
+        told(4, 1, 'series 2, {""="x"}, has a tag with an empty key', [{}, {'': 'x'}], [[1], [2]])
+        told(11, 0, 'the vector has the step 0; a step is 1 to 86400000, in milliseconds', [{}], [[]], 0, 0)
+        with self.assertRaises(Refusal) as cut:
+            export_text(Vector([{}], array('d', [1, 2, 3]), points=2))
+        self.assertEqual((cut.exception.number, str(cut.exception)), (5, 'the vector has 3 readings; 1 series of 2 points have 2'))
 
     def test_answers(self):
         over = 'the answer has over 512 series, 32 tags in a series or 65,535 label bytes'

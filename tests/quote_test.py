@@ -322,15 +322,19 @@ class Answers(unittest.TestCase):
 
 @built.needs_library
 class Runs(unittest.TestCase):
-    def quoted(self, query, left, right, *more, form='txt'):
-        out, errors = io.StringIO(), io.StringIO()
+    def run_on(self, before, files, *more):
+        """The status, the output and the errors of a run with these words, files by name and text, and words."""
+        out, errors = built.Printed(), io.StringIO()
         with tempfile.TemporaryDirectory() as folder, redirect_stdout(out), redirect_stderr(errors):
-            paths = [os.path.join(folder, f'{name}.{form}') for name in ('left', 'right')]
-            for path, text in zip(paths, (left, right)):
+            paths = [os.path.join(folder, name) for name in files]
+            for path, text in zip(paths, files.values()):
                 with open(path, 'w', encoding='utf-8') as file:
                     file.write(text)
-            status = quote.main([query, *paths, *more])
+            status = quote.main([*before, *paths, *more])
         return status, out.getvalue(), errors.getvalue()
+
+    def quoted(self, query, left, right, *more, form='txt'):
+        return self.run_on([query], {f'left.{form}': left, f'right.{form}': right}, *more)
 
     def test_the_scope_document_s_example(self):
         self.assertEqual(self.quoted('/', 'fed{press="A"} 10 - 6\n', 'waste{press="A"} 2 1 3\n'), (0, '{press="A"}  5  -  2\n', ''))
@@ -399,13 +403,7 @@ class Runs(unittest.TestCase):
 
     def test_aggregates(self):
         def quoted(query, text, *more):
-            out, errors = io.StringIO(), io.StringIO()
-            with tempfile.TemporaryDirectory() as folder, redirect_stdout(out), redirect_stderr(errors):
-                path = os.path.join(folder, 'paper.txt')
-                with open(path, 'w', encoding='utf-8') as file:
-                    file.write(text)
-                status = quote.main([query, path, *more])
-            return status, out.getvalue(), errors.getvalue()
+            return self.run_on([query], {'paper.txt': text}, *more)
         text = 'a{s="1",f="1"} 1 -\na{s="2",f="2"} 2 -\na{s="1",f="3"} 4 8\n'
         self.assertEqual(quoted('sum by (s)', text, '--total'), (0, '{s="1"}  5  8\n{s="2"}  2  -\ntotal    7  8\n', ''))
         self.assertEqual(quoted('Avg without (f)', text), (0, '{s="1"}  2.5  8\n{s="2"}    2  -\n', ''))
@@ -415,6 +413,79 @@ class Runs(unittest.TestCase):
         self.assertEqual(quoted('/', text), (2, '', 'quote: a query needs two files, left and right\n'))
         self.assertEqual(quoted('sum by s', text), (2, '', 'quote: query: ( is missing after by\n'))
         self.assertEqual(self.quoted('sum', text, text), (2, '', 'quote: an aggregate is of one file\n'))
+
+    def test_a_file_as_it_is(self):
+        text = 'from 2026-03-02T06:00Z every 1h\nfed{press="A",form="1"} 10 -\n{} 1 2\n'
+        self.assertEqual(self.run_on([], {'fed.txt': text}, '--total'), (
+            0,
+            '                         2026-03-02\n'
+            'UTC                      06:00  07:00\n'
+            'fed{form="1",press="A"}     10      -\n'
+            '{}                           1      2\n'
+            'total                       11      2\n',
+            ''))
+        sheet = '__name__,form,press,2026-03-02 06:00,2026-03-02 07:00\nfed,1,A,10,\n,,,1,2\n'
+        for before, files, more in ([], {'fed.txt': text}, ['--csv']), (['--csv'], {'fed.csv': sheet}, []):
+            self.assertEqual(self.run_on(before, files, *more), (0, sheet, ''))
+        many = 'a 1\n' * 513
+        self.assertEqual(self.run_on([], {'a.txt': many})[:2], (0, 'a{}  1\n' * 513))
+        self.assertEqual(self.run_on([], {'a.txt': many}, '--total'), (1, 'refused: the vector has 513 series; a vector has at most 512\n', ''))
+        for word in 'sum by (stock)', '+':
+            told = f'quote: there is no file {word!r}; behind a query or an aggregate stand its files\n'
+            self.assertEqual(self.run_on([word], {}), (2, '', told))
+
+    def test_options_stand_anywhere(self):
+        sides = {'left.txt': 'a 1\n', 'right.txt': 'a 2\n'}
+        for before, more in (['+', '--name', 'b'], []), (['--name', 'b', '+'], []), (['+'], ['--name', 'b']):
+            self.assertEqual(self.run_on(before, sides, *more), (0, 'b{}  3\n', ''))
+
+    def test_names(self):
+        self.assertEqual(self.quoted('*', 'a{f="1"} 2\nb{f="2"} 3\n', 'c{f="1"} 2\nc{f="2"} 2\n', '--name', 'good', '--total'),
+                         (0, 'good{f="1"}   4\ngood{f="2"}   6\ntotal        10\n', ''))
+        self.assertEqual(self.quoted('*', 'a 2\n', 'a 2\n', '--name', 'x' * 256)[::2],
+                         (2, f"quote: series 1: b'{'x' * 20}'... is longer than 255 bytes\n"))
+
+    def test_exports(self):
+        fed = 'from 2026-03-02T06:00Z every 1h\nfed{press="A",form="é \\"1\\""} 1000 - 0.0625\nidle - - -\nrate -0.0004 2 1e12\n'
+        lines = ('fed{form="é \\"1\\"",press="A"} 1000.000 1772431200000\nfed{form="é \\"1\\"",press="A"} 0.063 1772438400000\n'
+                 'rate 0.000 1772431200000\nrate 2.000 1772434800000\nrate 1000000000000.000 1772438400000\n')
+        self.assertEqual(self.run_on(['--export'], {'fed.txt': fed}), (0, lines, ''))
+        self.assertEqual(self.run_on([], {'fed.txt': fed}, '--export'), (0, lines, ''))
+        self.assertEqual(self.run_on([], {'fed.txt': '# nothing\n'}, '--export'), (0, '', ''))
+        sheet = '__name__,press,2026-03-02 06:00,2026-03-02 07:00\nfed,A,1.5,\n'
+        self.assertEqual(self.run_on([], {'fed.csv': sheet}, '--export'), (0, 'fed{press="A"} 1.500 1772431200000\n', ''))
+        text = 'a{s="1",f="1"} 1 -\na{s="2",f="2"} 2 -\na{s="1",f="3"} 4 8\n'
+        self.assertEqual(self.run_on(['sum by (s)'], {'a.txt': text}, '--export', '--name', 'b:c', '--total'), (
+            0, 'b:c{s="1"} 5.000 0\nb:c{s="1"} 8.000 3600000\nb:c{s="2"} 2.000 0\ntotal 7.000 0\ntotal 8.000 3600000\n', ''))
+        self.assertEqual(self.quoted('*', 'a{f="1"} 2.5\n', 'b{f="1"} 2\n', '--export', '--name', 'good'), (0, 'good{f="1"} 5.000 0\n', ''))
+        many = ''.join(f'a{{f="{i}"}} 1\n' for i in range(512))
+        self.assertTrue(self.run_on([], {'a.txt': many}, '--export', '--total')[1].endswith('\na{f="511"} 1.000 0\ntotal 512.000 0\n'))
+
+    def test_exports_that_are_refused(self):
+        """A refusal names the series, and the byte or the reading; nothing is printed then."""
+        header = 'from 2026-03-02T06:00Z every 1h\n'
+        name = 'a name has ASCII letters, digits, _ and :, and no digit first'
+        key = 'a key has ASCII letters, digits and _, and no digit first'
+        size = 'an exported reading is below 1099511627776, 2 to the 40th, in size'
+        for text, words in [
+            ('a 1\n{f="1"} 1\n', 'series 2, {f="1"}, cannot be exported: it has no name; --name gives it one'),
+            ('fed-rate 1\n', f"series 1, fed-rate{{}}, cannot be exported: byte 4 of its name is '-'; {name}"),
+            ('9 1\n', f"series 1, 9{{}}, cannot be exported: byte 1 of its name is '9'; {name}"),
+            ('fedé 1\n', f"series 1, fedé{{}}, cannot be exported: byte 4 of its name is hexadecimal c3, the first of 'é'; {name}"),
+            ('a{"press no."="A"} 1\n', 'series 1, a{"press no."="A"}, cannot be exported: '
+             f"byte 6 of its key \"press no.\" is ' '; {key}"),
+            ('a{b:c="A"} 1\n', f"series 1, a{{b:c=\"A\"}}, cannot be exported: byte 2 of its key \"b:c\" is ':'; {key}"),
+            (header + 'a 1 2 3\nb 1 - 2e12\n',
+             f'series 2, b{{}}, cannot be exported: its reading 3, of 2026-03-02T08:00Z, is 2000000000000; {size}'),
+            ('a 1 -1099511627776 1e300\n', f'series 1, a{{}}, cannot be exported: its reading 2 is -1099511627776; {size}'),
+            ('a inf\n', f'series 1, a{{}}, cannot be exported: its reading 1 is inf; {size}'),
+            ('a 1\n' * 513, 'the vector has 513 series; a vector has at most 512'),
+        ]:
+            with self.subTest(text[-20:]):
+                self.assertEqual(self.run_on([], {'a.txt': text}, '--export'), (1, '', f'refused: {words}\n'))
+        self.assertEqual(self.run_on([], {'a.txt': 'a 6e11\nb 6e11\n'}, '--export', '--total'), (
+            1, '', f'refused: series 1, total{{}}, cannot be exported: its reading 1 is 1200000000000; {size}\n'))
+        self.assertEqual(self.quoted('+', header + 'a 1\n', 'a 1\n', '--export')[:2], (1, ''))
 
     def test_refusals_in_words(self):
         """Each refusal that a file and a query as people write them can get."""

@@ -37,11 +37,11 @@ def file_text(*path):
 class Examples(unittest.TestCase):
     def test_quotes(self):
         quotes = [(command, said) for (kind, command), (_, said) in zip(BLOCKS, BLOCKS[1:]) if kind == 'sh' and './quote' in command]
-        self.assertEqual(len(quotes), 4)
+        self.assertEqual(len(quotes), 5)
         for command, said in quotes:
             words = shlex.split(command.partition('./quote ')[2])
             paths = [os.path.join(built.ROOT, word) if word.startswith('examples/') else word for word in words]
-            out = io.StringIO()
+            out = built.Printed()
             with self.subTest(command.strip()), redirect_stdout(out):
                 self.assertEqual(quote.main(paths), 0)
                 self.assertEqual(out.getvalue(), said)

@@ -1,5 +1,5 @@
-/* Labelled vector operators and aggregates over series with gaps. docs/SCOPE.md of the project says what a query, a
- * request, a label part and a refusal are.
+/* Labelled vector operators and aggregates over series with gaps, and their text for a screen. docs/SCOPE.md of the
+ * project says what a query, a request, a label part and a refusal are.
  *
  * Link with libnosingcatnip.a and -lm. The functions keep nothing between calls, so calls on disjoint output parts may
  * run at the same time. */
@@ -15,7 +15,7 @@ extern "C" {
 
 /* What a call reports, by index into its result. */
 enum {
-    NOSINGCATNIP_NUMBER = 0,      /* 0 for an answer, else the refusal's number, 1 to 14 */
+    NOSINGCATNIP_NUMBER = 0,      /* 0 for an answer or a text, else the refusal's number, 1 to 16 */
     NOSINGCATNIP_FIELD_1 = 1,     /* the refusal's first field; 0 for an answer */
     NOSINGCATNIP_FIELD_2 = 2,     /* the refusal's second field; 0 for an answer */
     NOSINGCATNIP_SERIES = 3,      /* the answer's series; 0 for a refusal */
@@ -24,6 +24,12 @@ enum {
     NOSINGCATNIP_STEP = 6,        /* the milliseconds from a point of the answer to the next; 0 for a refusal */
     NOSINGCATNIP_LABEL_BYTES = 7, /* the answer's label bytes; 0 for a refusal */
     NOSINGCATNIP_RESULT = 8       /* the result's length */
+};
+
+/* What an export reports, by index into its result, behind the number and the two fields, which are those above. */
+enum {
+    NOSINGCATNIP_TEXT_BYTES = 3, /* the text's bytes; 0 for a refusal */
+    NOSINGCATNIP_TEXT_RESULT = 4 /* the result's length */
 };
 
 /* Runs a query over two vectors.
@@ -72,6 +78,27 @@ void nosingcatnip_exec_aggregate(
     uint8_t *out_labels, size_t out_labels_len,
     uint64_t *out, size_t out_len,
     uint64_t result[NOSINGCATNIP_RESULT]);
+
+/* Writes the text of one vector in the Prometheus text exposition format, version 0.0.4, UTF-8.
+ *
+ * Each present reading is a line, series by series: the name; the tags in braces, where there are any, parted by
+ * commas, as key="value" with \\, \" and \n for backslash, double quote and line feed; a space and the value; a space
+ * and the time in milliseconds; a line feed. The value has three decimals and is the exact number rounded to the
+ * nearest, a half away from zero; zero has no sign. A missing reading has no line, and no line is a text of 0 bytes.
+ *
+ * The vector's parts are those of a side above, and its faults are refused as a left side's. Then its series are judged
+ * one by one. One is refused with 15 where its name is empty, where its name or a key begins with a digit or has a byte
+ * other than ASCII letters, digits, _ and, in names, :, or where a value is not UTF-8; else with 16 where a present
+ * reading has a size of 2^40 or more. The fields are 0 and the place of the first series at fault. Then a text longer
+ * than out is refused with 10.
+ *
+ * A text is written at the start of out; what lies behind it stays. A refusal leaves out as it was. All four numbers of
+ * result are written at each call. The pointers are as above. */
+void nosingcatnip_export_text(
+    const uint8_t *labels, size_t labels_len,
+    const uint64_t *readings, size_t readings_len,
+    uint8_t *out, size_t out_len,
+    uint64_t result[NOSINGCATNIP_TEXT_RESULT]);
 
 #ifdef __cplusplus
 }

@@ -37,6 +37,12 @@ Rows may lie in any buffer of 64-bit floats, an array or a numpy array: they are
 {form="1"} 0.5 1 0.75
 {form="2"} 2 2.5 1.5
 
+A vector can be written as the text that Prometheus reads, in bytes:
+
+>>> print(nosingcatnip.export_text(fed).decode(), end='')
+fed{press="A"} 10.000 0
+fed{press="A"} 6.000 7200000
+
 The module is this one file, over a shared library that `bindings/build` makes: the file that NOSINGCATNIP_LIBRARY names,
 else libnosingcatnip.so beside this file, else in target/sharedlib of the repository. It is loaded at the first call.
 """
@@ -50,7 +56,7 @@ import struct
 from array import array
 
 __all__ = ['Refusal', 'Vector', 'encode_aggregation', 'encode_query', 'encode_record', 'exec_aggregate', 'exec_binop',
-           'label_text', 'number_text']
+           'export_text', 'label_text', 'number_text']
 
 NAME = '__name__'
 HOUR = 3600000
@@ -61,6 +67,8 @@ AGGREGATES = ('sum', 'min', 'max', 'count', 'avg')
 # The scope document's limits. What a call is given is held to them by the library, not here.
 MAX_SERIES, MAX_POINTS, MAX_TAGS, MAX_LABEL_BYTES, MAX_ALLOWANCE = 512, 1024, 32, 65535, 8
 MAX_START, MAX_STEP = 2**52, 24 * HOUR
+# An exported reading is below this in size.
+MAX_SIZE = 2**40
 # The overlap allowed by a query that does not say.
 ALLOWANCE = 2
 
@@ -68,7 +76,7 @@ SIZES = struct.Struct('<HHHQI')
 
 
 class Refusal(ValueError):
-    """The library's refusal of a call: its number, 1 to 14, its two fields, and as text what it means, with the series
+    """The library's refusal of a call: its number, 1 to 16, its two fields, and as text what it means, with the series
     that it is about by side, place and labels."""
 
     def __init__(self, number, fields, words):
@@ -221,6 +229,11 @@ def _text(data):
     return data.decode('utf-8', 'surrogateescape')
 
 
+def _shown(data):
+    """A label's bytes as text that can be printed."""
+    return data.decode('utf-8', 'backslashreplace')
+
+
 PLAIN = re.compile(r'[^\s{}",=\\]+')
 
 
@@ -230,12 +243,9 @@ def label_text(labels):
     >>> label_text({'__name__': 'fed', 'press': 'A', 'paper stock': '120 g'})
     'fed{press="A","paper stock"="120 g"}'
     """
-    def shown(text):
-        return _data(text).decode('utf-8', 'backslashreplace')
-
     def quoted(text):
         return '"' + text.replace('\\', r'\\').replace('"', r'\"').replace('\n', r'\n') + '"'
-    fields = {shown(key): shown(value) for key, value in labels.items()}
+    fields = {_shown(_data(key)): _shown(_data(value)) for key, value in labels.items()}
     name = fields.pop(NAME, '')
     tags = (f'{key if PLAIN.fullmatch(key) else quoted(key)}={quoted(value)}' for key, value in fields.items())
     return f'{name}{{{",".join(tags)}}}'
@@ -415,6 +425,56 @@ def _fault(number, vector, side, place):
     return f'{_series(vector, side, place)}, has more than {MAX_TAGS} tags'
 
 
+# What of a name, or of a key, a text can have, from its first byte on.
+TEXT_NAME, TEXT_KEY = re.compile(rb'(?:[A-Za-z_:][A-Za-z0-9_:]*)?'), re.compile(rb'(?:[A-Za-z_][A-Za-z0-9_]*)?')
+
+
+def _byte(data, at):
+    """A byte in words; where it is the first of a character outside ASCII, that too."""
+    if 32 <= data[at] < 127:
+        return f"'{chr(data[at])}'"
+    character = data[at:].decode('utf-8', 'replace')[0]
+    first_of = f", the first of '{character}'" if character.isprintable() and character != '\ufffd' else ''
+    return f'hexadecimal {data[at]:02x}{first_of}'
+
+
+def _bad_label(labels):
+    """Number 15: what a text cannot have of these labels; the first such thing, by the name, then each key and its value."""
+    fields = {_data(key): _data(value) for key, value in labels.items()}
+    name = fields.pop(NAME.encode(), b'')
+    if not name:
+        return 'it has no name'
+    bad = TEXT_NAME.match(name).end()
+    if bad < len(name):
+        return f'byte {bad + 1} of its name is {_byte(name, bad)}; a name has ASCII letters, digits, _ and :, and no digit first'
+    for key, value in fields.items():
+        bad, shown = TEXT_KEY.match(key).end(), _shown(key)
+        if bad < len(key):
+            return f'byte {bad + 1} of its key "{shown}" is {_byte(key, bad)}; a key has ASCII letters, digits and _, and no digit first'
+        try:
+            value.decode()
+        except UnicodeDecodeError as problem:
+            bad = problem.start
+            return f'the value of its tag {shown} is not UTF-8 from byte {bad + 1} on, {_byte(value, bad)}'
+    return 'the format has no such labels'
+
+
+def large_reading(vector, place, when=', at {} ms,'.format):
+    """Number 16: the first reading of a series that is too large for a text; `when` tells its time."""
+    at, reading = next((at, x) for at, x in enumerate(vector.rows[place]) if abs(x) >= MAX_SIZE)
+    return (f'{_series(vector, "", place)}, cannot be exported: its reading {at + 1}{when(vector.start + at * vector.step)} is '
+            f'{number_text(reading)}; an exported reading is below {MAX_SIZE}, 2 to the 40th, in size')
+
+
+def _unexported(number, vector, place):
+    """A refusal of an export in words."""
+    if number == 10:
+        return 'the text is longer than what was lent for it'
+    if number == 15:
+        return f'{_series(vector, "", place)}, cannot be exported: {_bad_label(vector.labels[place])}'
+    return large_reading(vector, place) if number == 16 else _fault(number, vector, '', place)
+
+
 def _meaning(number, first, second, query, sides):
     """A refusal in words. Fields are a side and a place, or two places on the side that the number says. Sides are vectors
     by their names."""
@@ -481,7 +541,7 @@ def _library():
     if path is None:
         raise OSError(f'{built} is not there; bindings/build makes it')
     library = ctypes.CDLL(path)
-    for name, parts in ('nosingcatnip_exec_binop', 7), ('nosingcatnip_exec_aggregate', 5):
+    for name, parts in ('nosingcatnip_exec_binop', 7), ('nosingcatnip_exec_aggregate', 5), ('nosingcatnip_export_text', 3):
         if not hasattr(library, name):
             raise OSError(f'{path} has no {name}; bindings/build makes the library that this module needs')
         function = getattr(library, name)
@@ -497,6 +557,21 @@ def _apart(outputs, inputs):
                 raise ValueError('a part that is lent for the answer lies over another part of the call')
 
 
+def _reported(name, numbers, inputs, outputs):
+    """The numbers that a function of the library reports. Inputs and outputs are buffers, each with the length of an item."""
+    result = (ctypes.c_uint64 * numbers)()
+    with _Lent() as lent:
+        taken = [lent.part(owner, item) for owner, item in inputs]
+        given = [lent.part(owner, item, writable=True) for owner, item in outputs]
+        _apart(given, taken)
+        getattr(_library(), name)(*(number for part in taken + given for number in part[:2]), result)
+    return result
+
+
+def _parts(vector):
+    return [(vector.part, 1), (vector.readings, 8)]
+
+
 def _called(name, query, sides, most, out_labels, out):
     """The answer of a function of the library, of at most so many series, over sides, vectors by their names."""
     vectors = list(sides.values())
@@ -506,15 +581,8 @@ def _called(name, query, sides, most, out_labels, out):
         points = min(max(vector.points for vector in vectors), MAX_POINTS)
         out = memoryview(bytearray(8 * min(most, MAX_SERIES) * points)).cast('d')
     out_labels, out = memoryview(out_labels).cast('B'), _flat(memoryview(out))
-    result = (ctypes.c_uint64 * 8)()
-    with _Lent() as lent:
-        inputs = [lent.part(query, 1)]
-        for vector in vectors:
-            inputs += [lent.part(vector.part, 1), lent.part(vector.readings, 8)]
-        outputs = [lent.part(out_labels, 1, writable=True), lent.part(out, 8, writable=True)]
-        _apart(outputs, inputs)
-        getattr(_library(), name)(*(number for part in inputs + outputs for number in part[:2]), result)
-    number, first, second, series, points, start, step, label_bytes = result
+    inputs = [(query, 1), *(part for vector in vectors for part in _parts(vector))]
+    number, first, second, series, points, start, step, label_bytes = _reported(name, 8, inputs, [(out_labels, 1), (out, 8)])
     if number:
         raise Refusal(number, (first, second), _meaning(number, first, second, query, sides))
     return Vector._answered(series, points, start, step, bytes(out_labels[:label_bytes]), out[:series * points])
@@ -550,3 +618,40 @@ def exec_aggregate(request, vector, out_labels=None, out=None):
     """
     request = encode_aggregation(request) if isinstance(request, str) else bytes(request)
     return _called('nosingcatnip_exec_aggregate', request, {'': vector}, len(vector), out_labels, out)
+
+
+# What a line of a text has behind its labels, at the most.
+LINE_END = len(f' -{MAX_SIZE}.000 {MAX_START + MAX_POINTS * MAX_STEP}\n')
+
+
+def export_text(vector, out=None):
+    """The text of a vector in the Prometheus text exposition format, version 0.0.4, bytes in UTF-8; or Refusal.
+
+    Each present reading is a line, series by series: name, tags in braces if there are any, the value with three decimals,
+    a half rounded away from zero, and the time in milliseconds. A missing reading has none. Each series has to have a name;
+    names and keys are words of ASCII, values UTF-8, and readings below 2 to the 40th in size.
+
+    The text lies in memory of its own, or in a buffer of bytes that is lent for it: then the part of it that the text takes
+    is given, a memoryview, and nothing else of it is changed.
+
+    >>> rate = Vector([{'__name__': 'rate', 'press': 'A'}], [[0.95, None, -0.0625]], start=1772431200000)
+    >>> print(export_text(rate).decode(), end='')
+    rate{press="A"} 0.950 1772431200000
+    rate{press="A"} -0.063 1772438400000
+    >>> export_text(Vector([{'__name__': 'waste rate'}], [[0.5]]))
+    Traceback (most recent call last):
+        ...
+    nosingcatnip.Refusal: series 1, waste rate{}, cannot be exported: byte 6 of its name is ' '; a name has ASCII \
+letters, digits, _ and :, and no digit first
+    """
+    text = out
+    if text is None:
+        # A line's labels have at most twice the bytes of their record: two signs and a comma stand for two lengths, and each
+        # byte of a value may be escaped.
+        records = len(vector.part) - SIZES.size
+        text = bytearray(min(vector.points, MAX_POINTS) * (2 * records + LINE_END * min(len(vector), MAX_SERIES)))
+    text = memoryview(text).cast('B')
+    number, first, place, length = _reported('nosingcatnip_export_text', 4, _parts(vector), [(text, 1)])
+    if number:
+        raise Refusal(number, (first, place), _unexported(number, vector, place))
+    return bytes(text[:length]) if out is None else text[:length]

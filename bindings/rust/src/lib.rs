@@ -1,6 +1,7 @@
 //! Labelled vector operators and aggregates over series with gaps. Every call of [`exec_binop`], over two vectors,
 //! and of [`exec_aggregate`], over one, ends, allocates nothing, and gives either a complete valid vector or one
-//! refusal. docs/SCOPE.md of the project says what a query, a request, a label part and a refusal are.
+//! refusal; every call of [`export_text`], over one, either the whole text of it for a screen or one refusal.
+//! docs/SCOPE.md of the project says what a query, a request, a label part and a refusal are.
 //!
 //! [`Vector`] writes a side of a call, and [`Answer::read`] gives an answer's series:
 //!
@@ -31,7 +32,8 @@ use std::fmt;
 
 pub use vector::{EncodeError, Vector};
 
-/// A refusal: its number, 1 to 14, and its two fields. The one vector of an aggregate is named as the left side.
+/// A refusal: its number, 1 to 16, and its two fields. The one vector of an aggregate or an export is named as the left
+/// side.
 ///
 /// ```
 /// let refusal = nosingcatnip::Refusal { number: 7, fields: [2, 0] };
@@ -59,11 +61,13 @@ impl fmt::Display for Refusal {
             7 => write!(f, "of one key on the left, series {second} cannot be merged into series {first}"),
             8 => write!(f, "of one key on the right, series {second} cannot be merged into series {first}"),
             9 => write!(f, "the answer has over 512 series, 32 tags a series or 65,535 label bytes"),
-            10 => write!(f, "the answer is longer than a lent output part"),
+            10 => write!(f, "the answer or text is longer than a lent output part"),
             11 => write!(f, "start or step out of range on the {side}"),
             12 => write!(f, "the two sides have different starts or steps"),
             13 => write!(f, "the allowance is above 8"),
             14 => write!(f, "the aggregate is above 4"),
+            15 => write!(f, "series {second} has a name, a key or a value that the text cannot have"),
+            16 => write!(f, "series {second} has a reading of size 2^40 or more"),
             _ => write!(f, "no refusal has this number"),
         }
     }
@@ -157,6 +161,16 @@ extern "C" {
         out_labels: *mut u8,
         out_labels_len: usize,
         out: *mut u64,
+        out_len: usize,
+        result: *mut u64,
+    );
+
+    fn nosingcatnip_export_text(
+        labels: *const u8,
+        labels_len: usize,
+        readings: *const u64,
+        readings_len: usize,
+        out: *mut u8,
         out_len: usize,
         result: *mut u64,
     );
@@ -269,6 +283,49 @@ pub fn exec_aggregate(request: &[u8], vector: Side, out_labels: &mut [u8], out: 
         );
     }
     reported(result)
+}
+
+/// Writes the text of one vector in the Prometheus text exposition format, version 0.0.4, at the start of the lent
+/// output part, and gives its length. A refusal leaves the part as it was; a text changes nothing behind it. It is
+/// UTF-8.
+///
+/// Each present reading is a line, series by series: the name; the tags in braces, where there are any; the value, with
+/// three decimals, which is the exact number rounded to the nearest, a half away from zero; the time in milliseconds. A
+/// missing reading has no line.
+///
+/// A series is refused with 15 where its name is empty, where its name or a key begins with a digit or has a byte other
+/// than ASCII letters, digits, `_` and, in names, `:`, or where a value is not UTF-8; else with 16 where a present
+/// reading has a size of 2^40 or more. The second field is its place. A text longer than the part is refused with 10.
+///
+/// ```
+/// use nosingcatnip::{export_text, Vector};
+///
+/// let mut fed = Vector::new(3, 1_772_431_200_000, 3_600_000);
+/// fed.push("fed", &[("press", "A")], &[10.0, f64::NAN, 0.0625])?;
+/// let mut out = [0; 128];
+/// let length = export_text(fed.side(), &mut out)?;
+/// let text = "fed{press=\"A\"} 10.000 1772431200000\nfed{press=\"A\"} 0.063 1772438400000\n";
+/// assert_eq!(std::str::from_utf8(&out[..length])?, text);
+/// # Ok::<(), Box<dyn std::error::Error>>(())
+/// ```
+pub fn export_text(vector: Side, out: &mut [u8]) -> Result<usize, Refusal> {
+    let mut result = [0u64; 4];
+    // SAFETY: as in `exec_binop`, with four numbers.
+    unsafe {
+        nosingcatnip_export_text(
+            vector.labels.as_ptr(),
+            vector.labels.len(),
+            vector.readings.as_ptr(),
+            vector.readings.len(),
+            out.as_mut_ptr(),
+            out.len(),
+            result.as_mut_ptr(),
+        );
+    }
+    match result {
+        [0, _, _, length] => Ok(length as usize),
+        [number, first, second, _] => Err(Refusal { number, fields: [first, second] }),
+    }
 }
 
 /// What the eight numbers of a call say.

@@ -1,5 +1,5 @@
 //! Sides that are built, answers that are read back, and refusals in words.
-use nosingcatnip::{exec_aggregate, exec_binop, Answer, EncodeError, Refusal, Series, Side, Vector};
+use nosingcatnip::{exec_aggregate, exec_binop, export_text, Answer, EncodeError, Refusal, Series, Side, Vector};
 
 /// The operators by their numbers.
 const PLUS: u8 = 0;
@@ -168,14 +168,19 @@ fn each_refusal_is_told_in_words() {
     let other = vector(0, &[("", &[("a", "")], &[])]);
     let words = "refused 9 0 0: the answer has over 512 series, 32 tags a series or 65,535 label bytes";
     told(&query(OR), &bare(512), &other, words);
-    told(&query(OR), &bare(512), &none, "refused 10 0 0: the answer is longer than a lent output part");
+    told(&query(OR), &bare(512), &none, "refused 10 0 0: the answer or text is longer than a lent output part");
     told(&plus, &Vector::new(0, 0, 0), &none, "refused 11 0 0: start or step out of range on the left");
     told(&plus, &none, &Vector::new(0, u64::MAX, 1), "refused 11 1 0: start or step out of range on the right");
     told(&plus, &none, &Vector::new(0, 1, 1), "refused 12 0 0: the two sides have different starts or steps");
     told(&[PLUS, 0, 0, 0, 0, 0, 9], &one, &one, "refused 13 0 0: the allowance is above 8");
     let above = exec_aggregate(&[5], one.side(), &mut [], &mut []).unwrap_err();
     assert_eq!(above.to_string(), "refused 14 0 0: the aggregate is above 4");
-    for number in [0, 15] {
+    let unnamed = vector(1, &[("a", &[], &[1.0]), ("", &[], &[1.0])]);
+    let words = "refused 15 0 1: series 1 has a name, a key or a value that the text cannot have";
+    assert_eq!(export_text(unnamed.side(), &mut []).unwrap_err().to_string(), words);
+    let large = export_text(vector(1, &[("a", &[], &[1e300])]).side(), &mut []).unwrap_err();
+    assert_eq!(large.to_string(), "refused 16 0 0: series 0 has a reading of size 2^40 or more");
+    for number in [0, 17] {
         let words = format!("refused {number} 1 2: no refusal has this number");
         assert_eq!(Refusal { number, fields: [1, 2] }.to_string(), words);
     }
