@@ -1,5 +1,5 @@
-//! Times `exec_binop` of the Rust and of the library on the same inputs, and the library's aggregates and a plain loop, in
-//! turn, beside a plain copy of as many bytes. README.md says how to build it and what is counted.
+//! Times `exec_binop` of the Rust and of the library on the same inputs, the library's aggregates and a plain loop, and its export
+//! and plain `write!`s, in turn, beside a plain copy of as many bytes. README.md says how to build it and what is counted.
 mod plain;
 mod times;
 mod workloads;
@@ -16,6 +16,7 @@ fn checked(w: &Workload) -> &'static str {
         let checked = match &w.work {
             Work::Query(call) => Linked::default().check(call),
             Work::Aggregate(call) => Linked::default().check_aggregate(call),
+            Work::Export(call) => Linked::default().check_export(call),
         };
         if let Err(difference) = checked {
             panic!("{}: {difference}", w.name);
@@ -26,6 +27,10 @@ fn checked(w: &Workload) -> &'static str {
         Work::Aggregate(call) => {
             assert!(plain::is_right(call), "{}: the plain loop is wrong", w.name);
             return "  (the Rust is a plain loop)";
+        }
+        Work::Export(call) => {
+            assert!(plain::is_right_text(call), "{}: the plain text is wrong", w.name);
+            return "  (the Rust is a plain write!)";
         }
     };
     match verdict {
@@ -44,6 +49,18 @@ fn columns(measured: &Measured, of: impl Fn(&Times) -> f64) -> String {
     }
 }
 
+/// Of an export, how long its text is, and how much of it each writes a second, by medians. A byte a microsecond is a megabyte a
+/// second.
+fn text_a_second(work: &Work, measured: &Measured) -> String {
+    let Work::Export(call) = work else {
+        return String::new();
+    };
+    let bytes = call.room as f64;
+    let library = measured.library.as_ref().map_or("-".to_string(), |times| format!("{:.0}", bytes / times.median));
+    let rust = bytes / measured.rust.median;
+    format!("  {:.2} MB of text, MB a second: Rust {rust:.0}, library {library}", bytes / 1e6)
+}
+
 fn main() {
     let turns = std::env::args().nth(1).map_or(101, |n| n.parse().expect("a number of turns"));
     let part = std::env::args().nth(2).unwrap_or_default();
@@ -54,6 +71,6 @@ fn main() {
         let note = checked(&w);
         let measured = measure(&w.work, turns);
         let (medians, fastest) = (columns(&measured, |t| t.median), columns(&measured, |t| t.fastest));
-        println!("{medians}  {fastest}  {}{note}", w.name);
+        println!("{medians}  {fastest}  {}{note}{}", w.name, text_a_second(&w.work, &measured));
     }
 }

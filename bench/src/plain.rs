@@ -1,8 +1,9 @@
-//! Aggregates of one vector as a Rust program would have them that takes rows of `f64` and has no bytes to read: the labels in
-//! a hash map, and a row of running totals for each group.
+//! What a Rust program would have that takes rows of `f64` and has no bytes to read. Aggregates of one vector: the labels in a
+//! hash map, and a row of running totals for each group. The text of one vector: a `write!` for each line.
 use std::collections::HashMap;
+use std::io::Write;
 
-use reference::{Aggregate, AggregateCall, Grouping, Request, Series};
+use reference::{Aggregate, AggregateCall, ExportCall, Grid, Grouping, Request, Series};
 
 /// A name and tags.
 #[derive(Clone, PartialEq, Eq, Hash)]
@@ -87,20 +88,52 @@ impl By {
     }
 }
 
+/// The text of the rows, in place of what the vector held. The labels of a row are written once and copied into its lines. `{:.3}`
+/// sends an exact half to the even digit, so this is right for rows without one.
+pub fn exported(grid: Grid, rows: &[Row], out: &mut Vec<u8>) {
+    out.clear();
+    for row in rows {
+        let labels = row.labels.text();
+        for (i, value) in row.values.iter().enumerate() {
+            if !value.is_nan() {
+                let time = grid.start + i as u64 * u64::from(grid.step);
+                writeln!(out, "{labels} {value:.3} {time}").expect("a vector grows");
+            }
+        }
+    }
+}
+
+impl Labels {
+    fn text(&self) -> String {
+        let escaped = |value: &str| value.replace('\\', "\\\\").replace('"', "\\\"").replace('\n', "\\n");
+        let tags: Vec<String> = self.tags.iter().map(|(key, value)| format!("{key}=\"{}\"", escaped(value))).collect();
+        if tags.is_empty() {
+            self.name.clone()
+        } else {
+            format!("{}{{{}}}", self.name, tags.join(","))
+        }
+    }
+}
+
 /// A call's request, points and rows, as this program has them.
 pub fn made(call: &AggregateCall) -> (By, usize, Vec<Row>) {
     let Request { aggregate, grouping, list } = reference::take_request(&call.request).expect("a good request");
     assert_eq!(grouping, Grouping::By);
     let vector = reference::take_vector(0, &call.labels, &call.readings).expect("a good vector");
-    let row = |s: &Series| Row {
-        labels: Labels {
-            name: text(&s.labels.name),
-            tags: s.labels.tags.iter().map(|t| (text(&t.key), text(&t.value))).collect(),
-        },
-        values: s.row.iter().map(|reading| f64::from_bits(*reading)).collect(),
-    };
     let rows = vector.series.iter().map(row).collect();
     (By { aggregate, labels: list.iter().map(|label| text(label)).collect() }, vector.points, rows)
+}
+
+/// The grid and the rows of a call of the export.
+pub fn made_export(call: &ExportCall) -> (Grid, Vec<Row>) {
+    let vector = reference::take_vector(0, &call.labels, &call.readings).expect("a good vector");
+    (vector.grid, vector.series.iter().map(row).collect())
+}
+
+fn row(s: &Series) -> Row {
+    let tags = s.labels.tags.iter().map(|t| (text(&t.key), text(&t.value))).collect();
+    let values = s.row.iter().map(|reading| f64::from_bits(*reading)).collect();
+    Row { labels: Labels { name: text(&s.labels.name), tags }, values }
 }
 
 fn text(bytes: &[u8]) -> String {
@@ -120,4 +153,12 @@ pub fn is_right(call: &AggregateCall) -> bool {
     let records: Vec<u8> = given.iter().flat_map(|row| labels(&row.labels).record()).collect();
     let readings: Vec<u64> = given.iter().flat_map(|row| row.values.iter().map(|value| value.to_bits())).collect();
     records == expected.labels && readings == expected.readings
+}
+
+/// Whether the program's text is the reference's.
+pub fn is_right_text(call: &ExportCall) -> bool {
+    let (grid, rows) = made_export(call);
+    let mut out = Vec::new();
+    exported(grid, &rows, &mut out);
+    out == reference::export(call).expect("a text")
 }

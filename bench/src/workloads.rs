@@ -1,8 +1,8 @@
 //! The inputs that are measured, the same on every machine.
 use oracle::cases::plain;
 use oracle::random::Random;
-use reference::{Aggregate, AggregateCall, Call, Grouping, Join, Labels, Matching, Operator, Query, Request, Room};
-use reference::{Series, Tag, Vector, MISSING};
+use reference::{is_missing, Room, Series, Tag, Vector, MISSING};
+use reference::{Aggregate, AggregateCall, Call, ExportCall, Grid, Grouping, Join, Labels, Matching, Operator, Query, Request};
 
 pub struct Workload {
     pub name: String,
@@ -12,6 +12,8 @@ pub struct Workload {
 pub enum Work {
     Query(Call),
     Aggregate(AggregateCall),
+    /// Into a part that is just as long as the text.
+    Export(ExportCall),
 }
 
 const ROOM: Room = Room { labels: 65_535, readings: 524_288 };
@@ -185,6 +187,18 @@ fn sum_by(r: &mut Random, presses: usize, p: usize, gaps: (&str, Gaps)) -> Workl
     }
 }
 
+/// The text of series with three tags, of hundredths, from 2026 on. No hundredth is half a thousandth.
+fn export(r: &mut Random, n: usize, p: usize, gaps: (&str, Gaps)) -> Workload {
+    let mut vector = side(r, n, p, 1, 3, gaps.1);
+    vector.grid = Grid { start: 1_772_431_200_000, ..vector.grid };
+    for reading in vector.series.iter_mut().flat_map(|s| &mut s.row).filter(|reading| !is_missing(**reading)) {
+        *reading = (f64::from_bits(*reading) / 100.0).to_bits();
+    }
+    let mut call = oracle::exports::call(&vector, usize::MAX);
+    call.room = reference::export(&call).expect("a text").len();
+    Workload { name: format!("export, {n} series of {p} points, three tags, gaps: {}", gaps.0), work: Work::Export(call) }
+}
+
 pub fn workloads() -> Vec<Workload> {
     let r = &mut Random::new(1);
     let mut all = Vec::new();
@@ -222,5 +236,7 @@ pub fn workloads() -> Vec<Workload> {
         all.extend(GAPS.map(|gaps| sum_by(r, presses, 1024, gaps)));
     }
     all.push(join_starred(r, 512, 16));
+    all.extend(GAPS.map(|gaps| export(r, 256, 1024, gaps)));
+    all.push(export(r, 512, 16, GAPS[2]));
     all
 }

@@ -3,6 +3,7 @@
 //! other is named). It is written to be read, not to be fast.
 
 mod aggregate;
+mod export;
 mod label;
 mod query;
 mod reading;
@@ -11,6 +12,7 @@ mod vecop;
 mod vector;
 
 pub use aggregate::{aggregate, take_request, totals, Aggregate, AggregateCall, Grouping, Request};
+pub use export::{export, written_value, ExportCall, Exported};
 pub use label::{Labels, Tag, NAME};
 pub use query::{take_query, Join, Matching, Operator, Query};
 pub use reading::{combine, is_missing, merge, Merged, MISSING};

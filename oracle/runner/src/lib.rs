@@ -4,6 +4,7 @@ pub mod cases;
 pub mod compare;
 pub mod damage;
 pub mod dealing;
+pub mod exports;
 pub mod known;
 pub mod library;
 pub mod overlaps;

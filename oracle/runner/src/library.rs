@@ -2,9 +2,9 @@
 use std::io::{Read, Write};
 use std::process::{Command, Stdio};
 
-#[cfg(feature = "library")]
-use reference::AggregateCall;
 use reference::{vecop, Call};
+#[cfg(feature = "library")]
+use reference::{AggregateCall, ExportCall};
 
 /// A program or a linked library that takes calls.
 pub trait Library {
@@ -127,6 +127,59 @@ impl Linked {
         let run = |labels: &mut [u8], readings: &mut [u64]| nosingcatnip::exec_aggregate(&call.request, vector, labels, readings);
         self.held(call.room, run, reference::aggregate(call))
     }
+
+    /// Runs the export, into the middle of the buffer of label bytes, and compares all that it gives and leaves behind with the
+    /// reference, each of the four numbers of its result too.
+    pub fn check_export(&mut self, call: &ExportCall) -> Result<(), String> {
+        self.grow(reference::Room { labels: call.room, readings: 0 });
+        let given = raw_export(call, &mut self.labels[BORDER..BORDER + call.room]);
+        let (expected, text) = match reference::export(call) {
+            Err(r) => ([r.number, r.fields[0], r.fields[1], 0], vec![]),
+            Ok(text) => ([0, 0, 0, text.len() as u64], text),
+        };
+        let wrong = left_behind(&mut self.labels, &self.label_pattern, &text);
+        if given != expected {
+            return Err(format!("the library gives {given:?}, the reference {expected:?}"));
+        }
+        match wrong {
+            Some(at) => Err(format!("the byte at {at} of the lent part differs")),
+            None => Ok(()),
+        }
+    }
+}
+
+#[cfg(feature = "library")]
+extern "C" {
+    // bindings/c/nosingcatnip.h
+    fn nosingcatnip_export_text(
+        labels: *const u8,
+        labels_len: usize,
+        readings: *const u64,
+        readings_len: usize,
+        out: *mut u8,
+        out_len: usize,
+        result: *mut u64,
+    );
+}
+
+/// The four numbers that the linked library writes for an export; the crate over it hands on those that an outcome needs.
+#[cfg(feature = "library")]
+fn raw_export(call: &ExportCall, out: &mut [u8]) -> [u64; 4] {
+    let mut result = [0x5bd1_e995_9e37_79b9; 4];
+    // SAFETY: each pointer and length are a slice's, the output part is borrowed for it alone, and the function writes within it and
+    // four numbers.
+    unsafe {
+        nosingcatnip_export_text(
+            call.labels.as_ptr(),
+            call.labels.len(),
+            call.readings.as_ptr(),
+            call.readings.len(),
+            out.as_mut_ptr(),
+            out.len(),
+            result.as_mut_ptr(),
+        );
+    }
+    result
 }
 
 /// What the linked library alone gives for an aggregate.

@@ -3,13 +3,15 @@
 use std::process::ExitCode;
 
 use oracle::dealing::{dealt, Run};
+#[cfg(feature = "library")]
+use oracle::exports;
 use oracle::library::{Library, Program};
 use oracle::random::Random;
 use oracle::tally::Tally;
 use oracle::{aggregates, cases, damage, known, overlaps, sample};
-#[cfg(feature = "library")]
-use reference::AggregateCall;
 use reference::{Aggregate, Call, Grouping, Room, ALLOWANCE, MAX_ALLOWANCE};
+#[cfg(feature = "library")]
+use reference::{AggregateCall, ExportCall};
 
 struct Options {
     seed: u64,
@@ -19,28 +21,39 @@ struct Options {
     sample: Option<String>,
     show: usize,
     differences: bool,
-    /// The aggregates alone.
-    aggregates: bool,
+    part: Part,
 }
 
-const USAGE: &str = "oracle [--seed N] [--cases N] [--vecop WORDS | --aggregates] [--show N]\n\
+/// What is run.
+#[derive(Clone, Copy, PartialEq, Eq)]
+enum Part {
+    All,
+    Aggregates,
+    /// The export, which has nothing but the linked library to compare with the reference.
+    Exports,
+}
+
+const USAGE: &str = "oracle [--seed N] [--cases N] [--vecop WORDS | --aggregates | --exports] [--show N]\n\
     oracle --sample FOLDER\n\
     oracle --differences\n\
     --seed     of the random cases (1)\n\
     --cases    random cases an operator, and an aggregate and grouping (20000)\n\
     --vecop    compares the vecop that these words run with the reference, and leaves the Rust aside\n\
     --aggregates   runs what there is of aggregates, and nothing else\n\
+    --exports  runs the export, for which the library has to be linked, and nothing else\n\
     --show     how many differences are printed in full (5)\n\
     --sample   writes the fixed sample of the Rust's answers into this folder\n\
     --differences   prints the listed differences with their smallest inputs";
 
 fn options() -> Result<Options, String> {
-    let mut o = Options { seed: 1, cases: 20_000, vecop: None, sample: None, show: 5, differences: false, aggregates: false };
+    let mut o = Options { seed: 1, cases: 20_000, vecop: None, sample: None, show: 5, differences: false, part: Part::All };
     let mut words = std::env::args().skip(1);
     while let Some(word) = words.next() {
         match word.as_str() {
             "--differences" => o.differences = true,
-            "--aggregates" => o.aggregates = true,
+            "--aggregates" => o.part = Part::Aggregates,
+            "--exports" if cfg!(feature = "library") => o.part = Part::Exports,
+            "--exports" => return Err("--exports needs the linked library: build with --features oracle/library".to_string()),
             _ => valued(&mut o, &word, &words.next().ok_or_else(|| USAGE.to_string())?)?,
         }
     }
@@ -82,7 +95,7 @@ fn main() -> ExitCode {
     match &o.vecop {
         Some(words) => good &= program(&o, Program { words: words.clone() }),
         None => {
-            if !o.aggregates {
+            if o.part == Part::All {
                 good &= known::shown();
                 good &= against_rust(&o);
                 #[cfg(feature = "library")]
@@ -90,12 +103,18 @@ fn main() -> ExitCode {
                     good &= linked(&o);
                 }
             }
-            good &= edited_labels(&o);
-            good &= dealt_in_two(&o, "The reference", reference::aggregate);
+            if o.part != Part::Exports {
+                good &= edited_labels(&o);
+                good &= dealt_in_two(&o, "The reference", reference::aggregate);
+                #[cfg(feature = "library")]
+                {
+                    good &= linked_aggregates(&o);
+                    good &= dealt_in_two(&o, "The linked library", oracle::library::linked_aggregate);
+                }
+            }
             #[cfg(feature = "library")]
-            {
-                good &= linked_aggregates(&o);
-                good &= dealt_in_two(&o, "The linked library", oracle::library::linked_aggregate);
+            if o.part != Part::Aggregates {
+                good &= linked_exports(&o);
             }
         }
     }
@@ -209,6 +228,45 @@ fn aggregated(o: &Options, visit: &mut dyn FnMut(&'static str, AggregateCall)) {
     }
 }
 
+/// Visits every case of the export, those with the longest texts last.
+#[cfg(feature = "library")]
+fn exported(o: &Options, visit: &mut dyn FnMut(&'static str, ExportCall)) {
+    use exports::Extent;
+    let mut r = Random::new(o.seed.wrapping_mul(1_000_117));
+    let n = o.cases;
+    exports::short_words(visit);
+    exports::sequences(&mut |c| visit("UTF-8 sequences at their borders", c));
+    for _ in 0..n {
+        visit("UTF-8, good and broken, at random", exports::random_utf8(&mut r));
+    }
+    exports::halves(&mut r, n.div_ceil(50), &mut |c| visit("values about each half at each exponent", c));
+    exports::large(&mut r, &mut |c| visit("readings about 2 to the 40th and beyond", c));
+    for _ in 0..n {
+        visit("random", exports::random(&mut r, Extent::Small));
+    }
+    for _ in 0..2 * n {
+        visit("several faults in one vector", exports::several_faults(&mut r));
+    }
+    for _ in 0..n {
+        visit("bytes changed", exports::changed_bytes(&mut r));
+    }
+    for _ in 0..n.div_ceil(200) {
+        exports::cuts(&mut r, &mut |c| visit("label parts cut", c));
+    }
+    exports::damaged(&mut r, n.div_ceil(4), &mut |c| visit("damaged vectors", c));
+    for _ in 0..n.div_ceil(10) {
+        exports::rooms(&mut r, &mut |c| visit("output parts of every length", c));
+    }
+    exports::longer_words(&mut |c| visit("every byte in longer names, keys and values", c));
+    exports::times(&mut |c| visit("times", c));
+    for _ in 0..n.div_ceil(100) {
+        visit("random, many series", exports::random(&mut r, Extent::Wide));
+        visit("random, long rows", exports::random(&mut r, Extent::Long));
+    }
+    exports::nothing(&mut |c| visit("no series, no points, no reading", c));
+    exports::limits(&mut |c| visit("limits", c));
+}
+
 /// The label of every total, held against the Rust's.
 fn edited_labels(o: &Options) -> bool {
     println!("The reference's edited labels against the Rust's remove_group_tags, seed {}", o.seed);
@@ -300,6 +358,18 @@ fn linked_aggregates(o: &Options) -> bool {
     aggregated(o, &mut |kind, c| {
         let checked = library.check_aggregate(&c);
         tally.count_aggregate(kind, &c, checked);
+    });
+    tally.report()
+}
+
+#[cfg(feature = "library")]
+fn linked_exports(o: &Options) -> bool {
+    let mut library = oracle::library::Linked::default();
+    println!("{} against the reference: exports, seed {}", library.name(), o.seed);
+    let mut tally = Tally::new(o.show);
+    exported(o, &mut |kind, c| {
+        let checked = library.check_export(&c);
+        tally.count_export(kind, &c, checked);
     });
     tally.report()
 }

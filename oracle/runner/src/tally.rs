@@ -1,7 +1,7 @@
 //! Counts of cases and outcomes, and the differences found.
 use std::collections::BTreeMap;
 
-use reference::{AggregateCall, Call, Labels, Request};
+use reference::{AggregateCall, Call, ExportCall, Labels, Request};
 
 use crate::compare::{compare, Agreement, Verdict};
 use crate::dealing::{self, Deal, Run};
@@ -63,6 +63,37 @@ impl Tally {
         self.count_request(&call.request);
         if let Err(difference) = checked {
             self.difference(kind, &difference, || given_aggregate(call));
+        }
+    }
+
+    /// Counts a call of the export, whose comparison with the reference came to this.
+    pub fn count_export(&mut self, kind: &'static str, call: &ExportCall, checked: Result<(), String>) {
+        *self.kinds.entry(kind).or_default() += 1;
+        // The text where the part is long enough for it.
+        let whole = reference::export(&ExportCall { room: usize::MAX, ..call.clone() });
+        let outcome = match &whole {
+            Ok(text) if text.len() > call.room => "refused 10".to_string(),
+            Ok(text) if text.is_empty() => "a text of no line".to_string(),
+            Ok(_) => "a text".to_string(),
+            Err(r) => format!("refused {:2}", r.number),
+        };
+        if let Ok(text) = &whole {
+            let lent = match call.room as isize - text.len() as isize {
+                0 => "as long as the text",
+                -1 => "one byte short",
+                1 => "one byte more",
+                ..-1 => "shorter",
+                _ => "longer",
+            };
+            *self.queries.entry(format!("output part: {lent}")).or_default() += 1;
+        }
+        if outcome == "a text" {
+            let lines = whole.iter().flatten().filter(|byte| **byte == b'\n').count();
+            *self.queries.entry("lines written".to_string()).or_default() += lines as u64;
+        }
+        *self.outcomes.entry(outcome).or_default() += 1;
+        if let Err(difference) = checked {
+            self.difference(kind, &difference, || given_export(call));
         }
     }
 
@@ -188,4 +219,8 @@ fn given_aggregate(call: &AggregateCall) -> String {
         format!("  room    {:?}", call.room),
     ]
     .join("\n")
+}
+
+fn given_export(call: &ExportCall) -> String {
+    format!("  vector  {:02x?} {:016x?}\n  room    {}", call.labels, call.readings, call.room)
 }
