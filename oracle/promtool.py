@@ -15,9 +15,6 @@ What is left out, because Prometheus refuses it or reads it in another way: seve
 with a reading at the same point, on either side of a one-to-one operator; equal labels in a result; a label in `on` and in a
 join list; empty tag values; `or`, `if`, `ifnot`, `default`, keep names and `*`, which Prometheus lacks or reads in another way;
 readings that would make a NaN. docs/DIFFERENCES.md says for each how the two read it.
-
-Comparisons are expected to differ at exactly the points where a matched right reading is missing: there Prometheus has no
-element. Those points are counted, and the expected result is without them.
 """
 import argparse
 import os
@@ -98,19 +95,6 @@ class Case:
                     used.add(i)
         return side
 
-    def right_rows(self, rows):
-        """For each answer row of a comparison, whether a matched right reading stands at each point."""
-        if self.kind == "group_right":
-            keys = {self.key(labels) for labels, _ in self.left}
-            many = [row for labels, row in self.right if self.key(labels) in keys]
-            return [[r is not None for r in row] for row in many]
-        found = []
-        for labels, _ in rows:
-            tags = {k: v for k, v in labels.items() if k != "__name__"}
-            matched = [row for other, row in self.right if self.key(other) == self.key(tags)]
-            found.append([any(row[i] is not None for row in matched) for i in range(self.points)])
-        return found
-
     def query(self):
         matching = {None: wire.ALL, "on": wire.ON, "ignoring": wire.IGNORING}[self.matching]
         join = {"group_left": wire.GROUP_LEFT, "group_right": wire.GROUP_RIGHT}.get(self.kind, wire.ONE_TO_ONE)
@@ -164,9 +148,6 @@ def written(labels):
 
 def unit_test(case, rows, counts):
     """One entry of a test file, or None where the result would hold equal labels."""
-    present = None
-    if case.op in COMPARISONS:
-        present = case.right_rows(rows)
     lines = ["- interval: 1h", "  input_series:"]
     for name, side in (("l", case.left), ("r", case.right)):
         for labels, row in side:
@@ -176,16 +157,9 @@ def unit_test(case, rows, counts):
     if len(lines) == 2:
         lines[1] += " []"
     lines.append("  promql_expr_test:")
-    missing = elements = 0
+    elements = 0
     for i in range(case.points):
-        samples = []
-        for k, (labels, row) in enumerate(rows):
-            if row[i] is None:
-                continue
-            if present is not None and not present[k][i]:
-                missing += 1
-                continue
-            samples.append((written(labels), row[i]))
+        samples = [(written(labels), row[i]) for labels, row in rows if row[i] is not None]
         if len({s for s, _ in samples}) < len(samples):
             return None
         lines.append("  - expr: '%s'" % case.expression())
@@ -197,7 +171,8 @@ def unit_test(case, rows, counts):
         elements += len(samples)
     counts["points"] += case.points
     counts["elements"] += elements
-    counts["missing on the right"] += missing
+    if case.op in COMPARISONS:
+        counts["of comparisons"] += elements
     return "\n".join(lines)
 
 
@@ -222,7 +197,7 @@ def main():
         if shutil.which(program) is None:
             sys.exit("%s is not there: %s" % (program, need))
     rng = random.Random(args.seed)
-    kinds, counts, tests, failed = {}, {"points": 0, "elements": 0, "missing on the right": 0}, [], 0
+    kinds, counts, tests, failed = {}, {"points": 0, "elements": 0, "of comparisons": 0}, [], 0
     skipped = 0
 
     def run_batch():
@@ -256,8 +231,7 @@ def main():
             run_batch()
     run_batch()
     print("seed %d: %d cases (%s)" % (args.seed, sum(kinds.values()), ", ".join("%s %d" % k for k in sorted(kinds.items()))))
-    print("%(points)d points, %(elements)d elements compared" % counts)
-    print("%d elements of comparisons left out, their right reading missing" % counts["missing on the right"])
+    print("%(points)d points, %(elements)d elements compared, %(of comparisons)d of them of comparisons" % counts)
     print("%d cases drawn again, their result having equal labels" % skipped)
     print("%d cases differ" % failed)
     sys.exit(failed != 0)

@@ -19,7 +19,6 @@ REFUSED = None
 
 # what the row is about; series and values; expression; hour; elements, or a refusal
 ROWS = (
-    ("a comparison, the right reading missing", (("l", "3"), ("r", "_")), "l != bool r", 0, {}),
     ("a join, several one-side series of a key", (('l{a="x"}', "1"), ('r{a="x",b="1"}', "1"), ('r{a="x",b="2"}', "1")),
      "l * on(a) group_left() r", 0, REFUSED),
     ("a join, equal edited labels", (('l{a="x",b="1"}', "1"), ('l{a="x",b="2"}', "1"), ('r{a="x",b="3"}', "1")),

@@ -10,7 +10,7 @@ import unittest
 import built
 from expected import read
 
-SAMPLE, EXAMPLES = 576, 385
+SAMPLE, EXAMPLES = 576, 433
 BYTE, WORD = ctypes.c_uint8, ctypes.c_uint64
 RESULT = 8
 FILL = b'\xbb'

@@ -35,6 +35,7 @@ fn checked(w: &Workload) -> &'static str {
     };
     match verdict {
         Verdict::Agree(_) | Verdict::Known(Known::NanBits) => "",
+        Verdict::Known(Known::MissingRight) => "  (the Rust compares with a missing right reading too)",
         Verdict::Known(Known::JoinUsesUp) => "  (the Rust uses up its one side and answers fewer series)",
         other => panic!("{}: {other:?}", w.name),
     }

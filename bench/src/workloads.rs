@@ -213,8 +213,13 @@ pub fn workloads() -> Vec<Workload> {
         all.push(join_merged(r, each, p));
     }
     all.extend([16, 1024].map(|p| join_apart(r, p)));
-    let queries =
-        [plain(Operator::Gt), Query { bool_flag: true, ..plain(Operator::Eql) }, plain(Operator::Or), plain(Operator::Default)];
+    let queries = [
+        plain(Operator::Gt),
+        plain(Operator::NotEq),
+        Query { bool_flag: true, ..plain(Operator::Eql) },
+        plain(Operator::Or),
+        plain(Operator::Default),
+    ];
     for query in &queries {
         all.extend(GAPS.map(|gaps| one_a_key(r, query, 256, 1024, gaps)));
     }

@@ -24,22 +24,17 @@ def remainder(x, y):
     return math.nan if math.isinf(x) or y == 0 else math.fmod(x, y)
 
 
-def equal(l, r):
-    return missing(r) if missing(l) else value(l) == value(r)
-
-
 ARITHMETIC = {0: lambda x, y: x + y, 9: lambda x, y: x - y, 7: lambda x, y: x * y, 4: quotient, 6: remainder}
-COMPARISON = {5: equal, 16: lambda l, r: not equal(l, r), 10: lambda l, r: value(l) > value(r),
-              11: lambda l, r: value(l) >= value(r), 14: lambda l, r: value(l) < value(r),
-              15: lambda l, r: value(l) <= value(r)}
+COMPARISON = {5: lambda x, y: x == y, 16: lambda x, y: x != y, 10: lambda x, y: x > y, 11: lambda x, y: x >= y,
+              14: lambda x, y: x < y, 15: lambda x, y: x <= y}
 
 
 def scalar(op, as_bool, l, r):
     if op in ARITHMETIC:
         return N if missing(l) or missing(r) else bits(ARITHMETIC[op](value(l), value(r)))
-    if op not in COMPARISON:
+    if op not in COMPARISON or missing(r):
         return N
-    holds = COMPARISON[op](l, r)
+    holds = COMPARISON[op](value(l), value(r))
     if as_bool:
         return N if missing(l) else (0x3ff0000000000000 if holds else 0)
     return l if holds else N
@@ -79,7 +74,7 @@ def row(*xs):
 # 01's examples
 operator(4, 0, row(10, None, 6), row(2, 1, 3))
 operator(5, 1, [N], row(3))
-operator(16, 1, row(3), [N])
+operator(16, 1, row(3), [N])  # N by 02
 operator(6, 0, row(-6), row(3))
 operator(6, 0, row(5), [0x7ff0000000000000])
 
@@ -90,8 +85,13 @@ special = [0, 1 << 63, bits(1.0), bits(-1.0), bits(3.0), bits(-6.0), bits(0.1), 
 pairs = [(x, y) for x in special for y in special]
 for op in list(ARITHMETIC) + list(COMPARISON):
     for as_bool in (0, 1) if op in COMPARISON else (0,):
-        some = pairs if op == 6 else random.sample(pairs, 48)
+        some = pairs if op == 6 else random.sample(pairs, 44)
         operator(op, as_bool, [x for x, _ in some], [y for _, y in some])
+# comparisons with a missing reading on the right, on the left, on both sides
+gaps = [0x7ff8000000000123, 0xfff0000000abcdef]
+for op in COMPARISON:
+    for as_bool in 0, 1:
+        operator(op, as_bool, row(3, 3) + gaps + gaps, gaps + row(3, 3) + gaps[::-1])
 for op in (1, 2, 3, 8, 12, 13, 17, 18):
     operator(op, op % 2, row(1, None, 2), row(3, 4, None))
 

@@ -214,6 +214,28 @@ def merges():
         yield name, asked, vector(points, *side(left)), vector(points, *side(right)), ROOM, result
 
 
+def missing_right():
+    """02: every comparison with a missing right reading gives missing; a missing left one against a present one is as in 01."""
+    payload = 0xfff0000000000001
+    left, right = [3., payload, 3., payload], [N, N, 2., 2.]
+    fed, waste = record(b'fed', form='1', press='A'), record(b'waste', press='A')
+    # What 3 gives against 2; a missing left reading passes `!=` alone.
+    for spelling, holds in ('==', False), ('!=', True), ('>', True), ('>=', True), ('<', False), ('<=', False):
+        op = wire.OPERATORS.index(spelling)
+        plain = [N, N, 3. if holds else N, payload if spelling == '!=' else N]
+        for flags, row in (0, plain), (wire.BOOL, [N, N, 1. if holds else 0., N]):
+            name = f'{spelling} bool' if flags else spelling
+            yield (f'{name} with gaps', query(op, flags=flags), vector(4, (A, left)), vector(4, (A, right)), ROOM, answer(4, (A, row)))
+            # The many side has the left readings in group_left, the right ones in group_right. Its name stays without bool.
+            kept = record(b'' if flags else b'fed', form='1', press='A')
+            yield (f'{name} with gaps under group_left', query(op, ON, GROUP_LEFT, flags, [b'press']),
+                   vector(4, (fed, left)), vector(4, (waste, right)), ROOM, answer(4, (kept, row)))
+            yield (f'{name} with gaps under group_right', query(op, ON, GROUP_RIGHT, flags, [b'press']),
+                   vector(4, (waste, left)), vector(4, (fed, right)), ROOM, answer(4, (kept, row)))
+            yield (f'{name} with nothing on the right', query(op, flags=flags), vector(1, (A, [3.])), vector(1, (A, [N])), ROOM,
+                   answer(1, (A, [N])))
+
+
 def rows(readings):
     return part(wire.readings([reading(x) for x in readings]))
 
@@ -225,6 +247,6 @@ def case(asked, left, right, room, outcome):
             + rows(right[1]) + part(labels) + rows(readings))
 
 
-examples = [*settled(), *misreadings(), *both_sides(), *query_faults(), *running(), *grids(), *unequal_grids(), *merges()]
+examples = [*settled(), *misreadings(), *both_sides(), *query_faults(), *running(), *grids(), *unequal_grids(), *merges(), *missing_right()]
 sample = read('oracle/sample/cases.bin')
 FILES = {'tests/replayed.cases': sample + b''.join(part(name.encode()) + part(case(*called)) for name, *called in examples)}

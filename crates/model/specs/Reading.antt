@@ -39,9 +39,13 @@ oneOrZero true = 0x3ff0_0000_0000_0000
 oneOrZero false = 0
 
 -- 01: Comparison gives the left reading if true, else N. With bool: left N gives N, else 1 or 0.
+abbrev pub comparisonValue : Bool → Bool → ℕ → ℕ
+comparisonValue true h a = cond (missing a) noReading (oneOrZero h)
+comparisonValue false h a = cond h a noReading
+
+-- 02: Every comparison with a missing right reading gives missing, bool or not. (Whether it holds, by 01, is then not asked.)
 unfoldable pub compared : Bool → Comparison → ℕ → ℕ → ℕ
-compared true c a b = cond (missing a) noReading (oneOrZero (holds c a b))
-compared false c a b = cond (holds c a b) a noReading
+compared bool c a b = cond (missing b) noReading (comparisonValue bool (holds c a b) a)
 
 abbrev pub scalarOfKind : Kind → Bool → ℕ → ℕ → ℕ
 scalarOfKind (arithmetic k) bool a b = calculated k a b

@@ -1,6 +1,6 @@
 -- What a test for a NaN shows of a pattern and of a float, and what operators give of it. Assumes nothing.
 use mathlib.Core.Path.{_≡_, refl, sym, _∙_, subst}
-use mathlib.Core.Bool.{Bool, true, false, not, cond, _||_}
+use mathlib.Core.Bool.{Bool, true, false, not, cond}
 use Prim.Native.Nat.{ℕ, _+_, _%_, _/_, _<_, _≤_}
 use native.Mathlib.Omega.{arith}
 use lib.Dec.{T, ltb}
@@ -10,7 +10,7 @@ use lib.Ieee.Compare.{nan-differs, differs-from-itself}
 use borrow.Author.Tests.{ltb-true, ltb-false}
 use Rattle.operator.specs.Kinds.{Arithmetic, sum, difference, product, quotient, remainder}
 use Rattle.model.specs.Lists.{cases}
-use Rattle.model.specs.Reading.{missing, noReading, calculated, equals}
+use Rattle.model.specs.Reading.{missing, noReading, calculated}
 use Rattle.reading.specs.Gaps.{gapOf, solidOf}
 
 pub yes : {b : Bool} → b ≡ true → T b
@@ -180,16 +180,3 @@ lt-fails = fails-gap lt nan-lt lt-nan
 
 pub le-fails : (a b : ℕ) → 0 < gapOf a + gapOf b → le (ofBits binary64 a) (ofBits binary64 b) ≡ false
 le-fails = fails-gap le nan-le le-nan
-
-pub eq-fails : (a b : ℕ) → 0 < gapOf a + gapOf b → eq (ofBits binary64 a) (ofBits binary64 b) ≡ false
-eq-fails = fails-gap eq nan-eq eq-nan
-
--- 01: Equality with both N is true
-pub equals-told : (a b : ℕ) → (ltb 1 (gapOf a + gapOf b) || eq (ofBits binary64 a) (ofBits binary64 b)) ≡ equals a b
-unfolding equals
-equals-told a b =
-    cases (missing a)
-    (λ e. cases (missing b)
-    (λ f. rw (gap-of-missing a e, gap-of-missing b f, e, f))
-    (λ f. rw (gap-of-missing a e, gap-of-reading b f, e, f) (eq-fails a b (omega (arith, gap-of-missing a e)))))
-    (λ e. cases (missing b) (λ f. rw (gap-of-reading a e, gap-of-missing b f, e)) (λ f. rw (gap-of-reading a e, gap-of-reading b f, e)))

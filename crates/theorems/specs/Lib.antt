@@ -8,5 +8,6 @@ pub mod Aggregates
 pub mod Exports
 pub mod Prometheus
 pub mod Joins
+pub mod Comparisons
 pub mod Settled
 pub mod Examples

@@ -39,7 +39,7 @@ abbrev resultOf : SetRule → Series → List Placed → Option Series
 resultOf k b [] = alone k b
 resultOf k b (r ∷ rs) = met k b (r ∷ rs)
 
-no-reading-missing : missing noReading ≡ true
+pub no-reading-missing : missing noReading ≡ true
 unfolding missing lib.Ieee.nanBits
 no-reading-missing = refl
 

@@ -1,4 +1,4 @@
--- Document 01's starred examples: one table, and one theorem over it. Assumes nothing.
+-- Document 01's starred examples, one of them as 02 has it: one table, and one theorem over it. Assumes nothing.
 use Prim.Native.Nat.{ℕ}
 use mathlib.Core.Path.{_≡_, refl}
 use mathlib.Core.Option.{Option, none, some}
@@ -58,9 +58,9 @@ starred =
     example (asked (plainly 18) 2 (pressA (one ∷ two ∷ []) ∷ []) (pressA (N ∷ five ∷ []) ∷ [])) (outcome (gives 2 (pressA (one ∷ N ∷ []) ∷ []))) ∷
     example (asked (plainly 18) 2 (pressA (one ∷ N ∷ []) ∷ []) (pressA (four ∷ N ∷ []) ∷ [])) (outcome (gives 2 [])) ∷
     example (asked (plainly 18) 2 (pressA (N ∷ N ∷ []) ∷ []) (series [] [] (four ∷ four ∷ []) ∷ [])) (outcome (gives 2 (pressA (N ∷ N ∷ []) ∷ []))) ∷
-    -- N `== bool` 3: N. 3 `!= bool` N: 1.
+    -- N `== bool` 3: N. 3 `!= bool` N: 1; 02: becomes N.
     example (asked (ask 5 0 0 2 [] []) 1 (pressA (N ∷ []) ∷ []) (pressA (three ∷ []) ∷ [])) (outcome (gives 1 (pressA (N ∷ []) ∷ []))) ∷
-    example (asked (ask 16 0 0 2 [] []) 1 (pressA (three ∷ []) ∷ []) (pressA (N ∷ []) ∷ [])) (outcome (gives 1 (pressA (one ∷ []) ∷ []))) ∷
+    example (asked (ask 16 0 0 2 [] []) 1 (pressA (three ∷ []) ∷ []) (pressA (N ∷ []) ∷ [])) (outcome (gives 1 (pressA (N ∷ []) ∷ []))) ∷
     -- Left {press="A"} [N,2], right {} [7,7]: `default` [7,2]; `or` both series.
     example (asked (plainly 3) 2 (pressA (N ∷ two ∷ []) ∷ []) (series [] [] (seven ∷ seven ∷ []) ∷ [])) (outcome (gives 2 (pressA (seven ∷ two ∷ []) ∷ []))) ∷
     example (asked (plainly 17) 2 (pressA (N ∷ two ∷ []) ∷ []) (series [] [] (seven ∷ seven ∷ []) ∷ []))

@@ -16,7 +16,7 @@ use Rattle.operator.specs.Kinds.{Arithmetic, sum, difference, product, quotient
 use Rattle.operator.specs.Kinds.{fallback, notCarried, SetRule, whereFound, whereNone, filled, kindOf}
 use Rattle.model.specs.Limits.{maxTags, maxPoints}
 use Rattle.model.specs.Lists.{cases, All}
-use Rattle.model.specs.Reading.{missing, noReading, calculated, holds, oneOrZero, compared, scalarOfKind, scalarOp}
+use Rattle.model.specs.Reading.{missing, noReading, calculated, holds, oneOrZero, comparisonValue, compared, scalarOfKind, scalarOp}
 use Rattle.model.specs.Row.{onlyMissing, zipWith, merged, overwritten, overlaps}
 use Rattle.model.specs.Labels.{Labels, WellFormed}
 use Rattle.model.specs.Edits.{Names}
@@ -70,10 +70,13 @@ one-or-zero-word : (t : Bool) → Word (oneOrZero t)
 one-or-zero-word true = omega arith
 one-or-zero-word false = omega arith
 
+value-word : (bool h : Bool) (a : ℕ) → Word a → Word (comparisonValue bool h a)
+value-word true h a k = cond-word (missing a) noReading (oneOrZero h) no-reading-word (one-or-zero-word h)
+value-word false h a k = cond-word h a noReading k no-reading-word
+
 compared-word : (bool : Bool) (c : Comparison) (a b : ℕ) → Word a → Word (compared bool c a b)
 unfolding compared
-compared-word true c a b h = cond-word (missing a) noReading (oneOrZero (holds c a b)) no-reading-word (one-or-zero-word (holds c a b))
-compared-word false c a b h = cond-word (holds c a b) a noReading h no-reading-word
+compared-word bool c a b h = cond-word (missing b) noReading _ no-reading-word (value-word bool (holds c a b) a h)
 
 kind-word : (k : Kind) (bool : Bool) (a b : ℕ) → Word a → Word (scalarOfKind k bool a b)
 kind-word (arithmetic k) bool a b h = calculated-word k a b

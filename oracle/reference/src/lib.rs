@@ -16,7 +16,7 @@ pub use export::{export, written_value, ExportCall, Exported};
 pub use label::{Labels, Tag, NAME};
 pub use query::{take_query, Join, Matching, Operator, Query};
 pub use reading::{combine, is_missing, merge, Merged, MISSING};
-pub use rules::{run, Event, What};
+pub use rules::{run, run_by, Event, What};
 pub use vecop::{frame, vecop};
 pub use vector::{take_vector, Grid, Series, Vector, SIZES};
 

@@ -72,15 +72,16 @@ fn arithmetic(op: Operator, left: u64, right: u64) -> u64 {
     }
 }
 
-/// "Comparison gives the left reading if true, else N. With bool: left N gives N, else 1 or 0. Equality with both N is true;
-/// `!=` with one side N is true; other comparisons with N are false." `!=` with both N is false: it is one of the others.
+/// "Comparison gives the left reading if true, else N. With bool: left N gives N, else 1 or 0. [...] `!=` with one side N is true;
+/// other comparisons with N are false." 02: "Every comparison with a missing right reading gives missing, bool or not".
 fn compare(op: Operator, bool_flag: bool, left: u64, right: u64) -> u64 {
+    if is_missing(right) {
+        return MISSING;
+    }
     let (l, r) = (f64::from_bits(left), f64::from_bits(right));
-    let (l_missing, r_missing) = (is_missing(left), is_missing(right));
     let holds = match op {
-        Operator::Eql if l_missing && r_missing => true,
-        Operator::NotEq if l_missing != r_missing => true,
-        _ if l_missing || r_missing => false,
+        Operator::NotEq if is_missing(left) => true,
+        _ if is_missing(left) => false,
         Operator::Eql => l == r,
         Operator::NotEq => l != r,
         Operator::Gt => l > r,
@@ -90,7 +91,7 @@ fn compare(op: Operator, bool_flag: bool, left: u64, right: u64) -> u64 {
         _ => unreachable!("{op:?} is not a comparison"),
     };
     match (bool_flag, holds) {
-        (true, _) if l_missing => MISSING,
+        (true, _) if is_missing(left) => MISSING,
         (true, true) => ONE,
         (true, false) => 0,
         (false, true) => left,

@@ -29,8 +29,16 @@ struct Placed<'a> {
     series: &'a Series,
 }
 
+/// What an operator outside the set rules gives of a left and a right reading.
+pub type Combine = fn(Operator, bool, u64, u64) -> u64;
+
 /// Every event of the call, in no order; `answer` goes by rank and stops at the first duplicate.
 pub fn run(query: &Query, left: &Vector, right: &Vector) -> Vec<Event> {
+    run_by(combine, query, left, right)
+}
+
+/// The same with `combine` for the operators: the Rust has other comparisons.
+pub fn run_by(combine: Combine, query: &Query, left: &Vector, right: &Vector) -> Vec<Event> {
     let mut left = placed(query, left);
     let mut right = placed(query, right);
     if query.op.is_logical_op() {
@@ -42,9 +50,9 @@ pub fn run(query: &Query, left: &Vector, right: &Vector) -> Vec<Event> {
         right.retain(|s| !only_missing(&s.series.row));
     }
     match query.join {
-        Join::OneToOne | Join::ManyToMany => one_to_one(query, &left, &right),
-        Join::GroupLeft => join(query, &left, &right),
-        Join::GroupRight => join(query, &right, &left),
+        Join::OneToOne | Join::ManyToMany => one_to_one(combine, query, &left, &right),
+        Join::GroupLeft => join(combine, query, &left, &right),
+        Join::GroupRight => join(combine, query, &right, &left),
     }
 }
 
@@ -61,7 +69,7 @@ fn same_key<'a, 'b>(side: &'b [Placed<'a>], key: &[Tag]) -> Vec<&'b Placed<'a>> 
 }
 
 /// "One-to-one: per key on both sides, each side becomes one series: the last, with the earlier ones merged into it in order."
-fn one_to_one(query: &Query, left: &[Placed], right: &[Placed]) -> Vec<Event> {
+fn one_to_one(combine: Combine, query: &Query, left: &[Placed], right: &[Placed]) -> Vec<Event> {
     let mut events = Vec::new();
     for (i, first) in left.iter().enumerate() {
         let first_of_key = left[..i].iter().all(|s| s.key != first.key);
@@ -102,7 +110,7 @@ fn merged_into_last(query: &Query, same: &[&Placed]) -> Result<Vec<u64>, (usize,
 /// many-side series with every same-key one-side series ...; for each many-side series by itself, from the one side's rows as
 /// they were taken, equal edited tags, name aside, merge into the earliest one-side row, whose edited label stays; two many-side
 /// series never merge."
-fn join(query: &Query, many: &[Placed], one: &[Placed]) -> Vec<Event> {
+fn join(combine: Combine, query: &Query, many: &[Placed], one: &[Placed]) -> Vec<Event> {
     let mut events = Vec::new();
     for m in many {
         let ones = same_key(one, &m.key);

@@ -1,4 +1,4 @@
-//! 01's settled examples, its one printed answer, 02's grids and 02's allowance.
+//! 01's settled examples, its one printed answer, 02's grids, 02's allowance and 02's comparisons.
 use reference::*;
 
 const N: u64 = MISSING;
@@ -81,10 +81,21 @@ fn unless() {
 }
 
 #[test]
-fn bool_comparisons() {
-    let three = 3f64.to_bits();
-    assert_eq!(combine(Operator::Eql, true, N, three), N);
-    assert_eq!(combine(Operator::NotEq, true, three, N), 1f64.to_bits());
+fn comparisons_with_a_missing_reading() {
+    use Operator::*;
+    let (three, payload) = (3f64.to_bits(), 0xfff0_0000_0000_0001);
+    // 01's pair; the second is N by 02.
+    assert_eq!(combine(Eql, true, N, three), N);
+    assert_eq!(combine(NotEq, true, three, N), N);
+    for op in [Eql, NotEq, Gt, Gte, Lt, Lte] {
+        for bool_flag in [false, true] {
+            for left in [three, N, payload] {
+                assert_eq!(combine(op, bool_flag, left, payload), N);
+            }
+            let passes = op == NotEq && !bool_flag;
+            assert_eq!(combine(op, bool_flag, payload, three), if passes { payload } else { N });
+        }
+    }
 }
 
 #[test]

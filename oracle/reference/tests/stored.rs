@@ -144,5 +144,5 @@ fn examples_are_replayed() {
         replayed(&name, part(rest));
         examples += 1;
     }
-    assert_eq!((sample, examples), (576, 385));
+    assert_eq!((sample, examples), (576, 433));
 }

@@ -1,7 +1,10 @@
 //! The reference held against the Rust: labels, readings, timestamps and duplicate errors, series order aside, all NaNs equal.
 use std::collections::HashMap;
 
-use reference::{answer, is_missing, run, taken, Call, Event, Join, Query, Room, Series, Vector, What, ALLOWANCE, MISSING};
+use reference::{
+    answer, combine, is_missing, run, run_by, taken, Call, Event, Join, Operator, Query, Room, Series, Vector, What, ALLOWANCE,
+    MISSING,
+};
 
 use crate::rust::{self, Given};
 
@@ -35,6 +38,8 @@ pub enum Known {
     UnequalGrids,
     /// 02: a merge allows as many overlaps as the query says. The Rust always allows 2.
     OtherAllowance,
+    /// 02: a comparison with a missing right reading gives N. The Rust compares with it, as 01 alone does.
+    MissingRight,
     /// 01: every many-side series meets its match. The Rust's `group_join` empties the one side on the first of a key, and so
     /// also misses a duplicate that only a later one would show.
     JoinUsesUp,
@@ -48,11 +53,12 @@ pub enum Known {
 }
 
 impl Known {
-    pub const ALL: [Known; 8] = [
+    pub const ALL: [Known; 9] = [
         Known::RefusedOperator,
         Known::UnequalPoints,
         Known::UnequalGrids,
         Known::OtherAllowance,
+        Known::MissingRight,
         Known::JoinUsesUp,
         Known::WhichDuplicate,
         Known::NoLimits,
@@ -80,7 +86,8 @@ pub fn compare(call: &Call) -> Verdict {
     if left.points != right.points {
         return Verdict::Known(Known::UnequalPoints);
     }
-    let all = run(&query, &left, &right);
+    let all = run_by(as_in_the_rust, &query, &left, &right);
+    let right_missing = all != run(&query, &left, &right);
     let seen = as_seen(&query, &left, &right, &all);
     let used_up = seen.len() < all.len();
     let outcome = answer(&query, &left, &right, AMPLE);
@@ -97,8 +104,29 @@ pub fn compare(call: &Call) -> Verdict {
         Ok(Detail::Duplicate) => Verdict::Agree(Agreement::Duplicate),
         Ok(_) if number == 9 => Verdict::Known(Known::NoLimits),
         Ok(_) if number != 0 => Verdict::Differ(format!("the Rust answers, the reference gives {outcome:?}")),
+        Ok(_) if right_missing => Verdict::Known(Known::MissingRight),
         Ok(Detail::NanBits) => Verdict::Known(Known::NanBits),
         Ok(Detail::Same) => Verdict::Agree(Agreement::Answer),
+    }
+}
+
+/// What an operator gives in the Rust, and in 01 alone: as in the reference, but a comparison does not stop at a missing right
+/// reading. "Comparison gives the left reading if true, else N. With bool: left N gives N, else 1 or 0. Equality with both N is
+/// true; `!=` with one side N is true; other comparisons with N are false."
+fn as_in_the_rust(op: Operator, bool_flag: bool, left: u64, right: u64) -> u64 {
+    if !op.is_comparison() || !is_missing(right) {
+        return combine(op, bool_flag, left, right);
+    }
+    let holds = match op {
+        Operator::Eql => is_missing(left),
+        Operator::NotEq => !is_missing(left),
+        _ => false,
+    };
+    match bool_flag {
+        true if is_missing(left) => MISSING,
+        true => f64::from(holds).to_bits(),
+        false if holds => left,
+        false => MISSING,
     }
 }
 

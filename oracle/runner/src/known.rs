@@ -76,6 +76,18 @@ pub fn examples(known: Known) -> Vec<(&'static str, Call)> {
                 ("+ group_left() on two that share three points, three allowed", given(&join, one(), two())),
             ]
         }
+        Known::MissingRight => {
+            let compared = |op, bool_flag, left: Series| {
+                given(&Query { bool_flag, ..query(op) }, side(1, vec![left]), side(1, vec![bare(&[f64::NAN])]))
+            };
+            let payload = Series { labels: labels(b"", &[]), row: vec![0x7ff8_0000_0000_0001] };
+            vec![
+                ("1 != N", compared(Operator::NotEq, false, bare(&[1.0]))),
+                ("1 != bool N", compared(Operator::NotEq, true, bare(&[1.0]))),
+                ("1 > bool N", compared(Operator::Gt, true, bare(&[1.0]))),
+                ("a payload, == N", compared(Operator::Eql, false, payload)),
+            ]
+        }
         Known::JoinUsesUp => {
             let join = Query { join: Join::GroupLeft, ..query(Operator::Add) };
             let two = side(1, vec![bare(&[1.0]), bare(&[2.0])]);

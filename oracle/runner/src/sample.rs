@@ -1,6 +1,7 @@
-//! The fixed sample of the Rust's answers, for tests that have no Rust at hand. Each case is one where the Rust is the
-//! measure and gives what the reference gives; what is written is the reference's outcome, since order, the bits of a made NaN
-//! and the places of a duplicate are 01's alone. oracle/README.md has the format of both files.
+//! The fixed sample of the Rust's answers, for tests that have no Rust at hand. Each case is one where the Rust is the measure
+//! and gives what the reference gives, in comparisons at the points whose right reading is present; what is written is the
+//! reference's outcome, since missing right readings, order, the bits of a made NaN and the places of a duplicate are 01's and
+//! 02's alone. oracle/README.md has the format of both files.
 use std::collections::BTreeMap;
 use std::fmt::Write;
 use std::path::Path;
@@ -48,7 +49,7 @@ pub fn chosen() -> Vec<(Call, Outcome)> {
             let outcome = reference::call(&call);
             let duplicate = match compare(&call) {
                 Verdict::Agree(Agreement::Duplicate) => true,
-                Verdict::Agree(Agreement::Answer) | Verdict::Known(Known::NanBits) => false,
+                Verdict::Agree(Agreement::Answer) | Verdict::Known(Known::NanBits | Known::MissingRight) => false,
                 _ => continue,
             };
             // Of answers without a present reading, one in eight is kept.

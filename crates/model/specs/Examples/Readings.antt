@@ -1,7 +1,8 @@
 -- Instances of the scalar operators, worked by hand. Assumes nothing.
 use mathlib.Core.Path.{_≡_, refl}
 use mathlib.Core.Bool.{true, false}
-use Rattle.operator.specs.Kinds.{sum, difference, product, quotient, remainder, equal, unequal, less, atMost, greater, atLeast}
+use mathlib.Core.List.{List, [], _∷_, map}
+use Rattle.operator.specs.Kinds.{sum, difference, product, quotient, remainder, Comparison, equal, unequal, less, atMost, greater, atLeast}
 use Rattle.operator.specs.declared.Operator.the-variants.{Add, Div, Eql}
 use Rattle.model.specs.Reading.{missing, noReading, calculated, compared, scalarOp}
 use Rattle.model.specs.Computing.{computing}
@@ -111,92 +112,72 @@ remainder-zero : calculated remainder seven zero ≡ noReading
 unfolding computing
 remainder-zero = refl
 
--- equality with both N is true, and the left bits pass through
-equal-missing : compared false equal payload noReading ≡ payload
-unfolding computing
-equal-missing = refl
+-- 02: Every comparison with a missing right reading gives missing, bool or not: whatever NaN it is, whether the left one is missing too, and
+-- in the written pattern, so that the left one's bits do not pass
 
--- with one N it is false
-equal-half : compared false equal three noReading ≡ noReading
+abbrev comparisons : List Comparison
+comparisons = equal ∷ unequal ∷ less ∷ atMost ∷ greater ∷ atLeast ∷ []
+
+right-missing : map (λ c. compared false c three payload) comparisons ≡ map (λ c. noReading) comparisons
 unfolding computing
-equal-half = refl
+right-missing = refl
+
+right-missing-bool : map (λ c. compared true c three payload) comparisons ≡ map (λ c. noReading) comparisons
+unfolding computing
+right-missing-bool = refl
+
+both-missing : map (λ c. compared false c payload signalling) comparisons ≡ map (λ c. noReading) comparisons
+unfolding computing
+both-missing = refl
+
+both-missing-bool : map (λ c. compared true c payload signalling) comparisons ≡ map (λ c. noReading) comparisons
+unfolding computing
+both-missing-bool = refl
+
+-- 01: `!=` with one side N is true, and the left bits pass; other comparisons with N are false. With bool, left N gives N.
+left-missing : map (λ c. compared false c payload three) comparisons ≡ noReading ∷ payload ∷ noReading ∷ noReading ∷ noReading ∷ noReading ∷ []
+unfolding computing
+left-missing = refl
+
+left-missing-bool : map (λ c. compared true c payload three) comparisons ≡ map (λ c. noReading) comparisons
+unfolding computing
+left-missing-bool = refl
+
+-- both present, and the same
+
+both-there : map (λ c. compared false c two three) comparisons ≡ noReading ∷ two ∷ two ∷ two ∷ noReading ∷ noReading ∷ []
+unfolding computing
+both-there = refl
+
+both-there-bool : map (λ c. compared true c two three) comparisons ≡ zero ∷ one ∷ one ∷ one ∷ zero ∷ zero ∷ []
+unfolding computing
+both-there-bool = refl
+
+both-same : map (λ c. compared false c three three) comparisons ≡ three ∷ noReading ∷ noReading ∷ three ∷ noReading ∷ three ∷ []
+unfolding computing
+both-same = refl
+
+both-same-bool : map (λ c. compared true c three three) comparisons ≡ one ∷ zero ∷ zero ∷ one ∷ zero ∷ one ∷ []
+unfolding computing
+both-same-bool = refl
 
 equal-zeros : compared false equal minusZero zero ≡ minusZero
 unfolding computing
 equal-zeros = refl
 
--- `!=` with one side N is true
-unequal-right : compared false unequal three noReading ≡ three
-unfolding computing
-unequal-right = refl
-
-unequal-left : compared false unequal payload three ≡ payload
-unfolding computing
-unequal-left = refl
-
-unequal-both : compared false unequal payload noReading ≡ noReading
-unfolding computing
-unequal-both = refl
-
--- other comparisons with N are false
-less-missing : compared false less noReading three ≡ noReading
-unfolding computing
-less-missing = refl
-
-at-least-missing : compared false atLeast three noReading ≡ noReading
-unfolding computing
-at-least-missing = refl
-
-at-most-both : compared false atMost noReading noReading ≡ noReading
-unfolding computing
-at-most-both = refl
-
-less-so : compared false less two three ≡ two
-unfolding computing
-less-so = refl
-
-less-not : compared false less three three ≡ noReading
-unfolding computing
-less-not = refl
-
-at-most-so : compared false atMost three three ≡ three
-unfolding computing
-at-most-so = refl
-
 greater-so : compared false greater three two ≡ three
 unfolding computing
 greater-so = refl
-
-greater-not : compared false greater two three ≡ noReading
-unfolding computing
-greater-not = refl
-
-at-least-so : compared false atLeast three three ≡ three
-unfolding computing
-at-least-so = refl
 
 -- *N `== bool` 3: N
 bool-left-missing : compared true equal noReading three ≡ noReading
 unfolding computing
 bool-left-missing = refl
 
--- *3 `!= bool` N: 1
-bool-right-missing : compared true unequal three noReading ≡ one
+-- *3 `!= bool` N: 1 in 01; 02: so 3 `!= bool` N becomes N
+bool-right-missing : compared true unequal three noReading ≡ noReading
 unfolding computing
 bool-right-missing = refl
-
--- with bool, left N gives N whatever the comparison says, in the written pattern
-bool-both-missing : compared true equal payload noReading ≡ noReading
-unfolding computing
-bool-both-missing = refl
-
-bool-true : compared true less two three ≡ one
-unfolding computing
-bool-true = refl
-
-bool-false : compared true less three two ≡ zero
-unfolding computing
-bool-false = refl
 
 -- the operator chooses
 operator-quotient : scalarOp Div false ten two ≡ five

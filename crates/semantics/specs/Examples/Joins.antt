@@ -1,11 +1,11 @@
--- Joins: matches, labels, merging, order; worked by hand from 01. Assumes nothing.
+-- Joins: matches, labels, merging, order; worked by hand from 01 and 02. Assumes nothing.
 use mathlib.Core.Path.{_≡_, refl}
 use mathlib.Core.List.{[], _∷_}
 use Rattle.model.specs.Labels.{nameLabel}
 use Rattle.model.specs.Edits.{star}
 use Rattle.semantics.specs.Call.{refused}
 use Rattle.semantics.specs.Computing.{computing}
-use Rattle.model.specs.Examples.Numbers.{eight, five, four, nine, one, seven, six, ten, three, two}
+use Rattle.model.specs.Examples.Numbers.{eight, five, four, nine, one, payload, seven, six, ten, three, two}
 use Rattle.semantics.specs.Examples.Notation.{N, form, press, stock, f, p, s, A, B, C, fed, waste, series, ask, on, gives}
 
 -- Two forms, one waste rate, group_left: two series. No one-side series is used up.
@@ -26,6 +26,17 @@ group-right :
     (series fed (form A ∷ press A ∷ []) (ten ∷ []) ∷ []) ∷ []
 unfolding computing
 group-right = refl
+
+-- 02: Every comparison with a missing right reading gives missing: in group_left the one side's reading, in group_right the many side's
+right-of-a-join :
+    on (ask 16 1 1 0 (p ∷ []) []) 3 (series fed (form A ∷ press A ∷ []) (one ∷ payload ∷ payload ∷ []) ∷ [])
+    (series waste (press A ∷ []) (N ∷ ten ∷ N ∷ []) ∷ []) ∷
+    on (ask 16 1 2 0 (p ∷ []) []) 3 (series waste (press A ∷ []) (ten ∷ payload ∷ payload ∷ []) ∷ [])
+    (series fed (form A ∷ press A ∷ []) (N ∷ one ∷ N ∷ []) ∷ []) ∷ []
+    ≡ gives 3 (series fed (form A ∷ press A ∷ []) (N ∷ payload ∷ N ∷ []) ∷ []) ∷
+    gives 3 (series fed (form A ∷ press A ∷ []) (N ∷ payload ∷ N ∷ []) ∷ []) ∷ []
+unfolding computing
+right-of-a-join = refl
 
 -- a many-side series whose key the one side lacks gives nothing
 unmatched-many : on (ask 0 1 1 0 (p ∷ []) []) 1 (series [] (press B ∷ []) (one ∷ []) ∷ []) (series [] (press A ∷ []) (one ∷ []) ∷ []) ≡ gives 1 []

@@ -1,4 +1,4 @@
--- Arithmetic and comparisons one-to-one: keys, the drop, merging, labels, order; worked by hand from 01. Assumes nothing.
+-- Arithmetic and comparisons one-to-one: keys, the drop, merging, labels, order; worked by hand from 01 and 02. Assumes nothing.
 use mathlib.Core.Path.{_≡_, refl}
 use mathlib.Core.List.{[], _∷_}
 use Rattle.model.specs.Labels.{nameLabel}
@@ -27,12 +27,22 @@ comparison : on (plainly 10) 3 (series [] [] (one ∷ three ∷ payload ∷ []) 
 unfolding computing
 comparison = refl
 
--- 01: Equality with both N is true; `!=` with one side N is true. The left reading keeps its bits.
-missing-compared : on (plainly 5) 2 (series [] [] (payload ∷ one ∷ []) ∷ []) (series [] [] (N ∷ N ∷ []) ∷ []) ∷ on (plainly 16) 2
-    (series [] [] (payload ∷ one ∷ []) ∷ []) (series [] [] (one ∷ N ∷ []) ∷ []) ∷ []
-    ≡ gives 2 (series [] [] (payload ∷ N ∷ []) ∷ []) ∷ gives 2 (series [] [] (payload ∷ one ∷ []) ∷ []) ∷ []
+-- 02: Every comparison with a missing right reading gives missing, bool or not. 01: `!=` with one side N is true: a missing left reading
+-- keeps its bits against a present one.
+missing-compared : on (plainly 5) 3 (series [] [] (payload ∷ one ∷ payload ∷ []) ∷ []) (series [] [] (payload ∷ N ∷ one ∷ []) ∷ []) ∷ on
+    (plainly 16) 3 (series [] [] (payload ∷ one ∷ payload ∷ []) ∷ []) (series [] [] (payload ∷ N ∷ one ∷ []) ∷ []) ∷ on
+    (ask 16 0 0 2 [] []) 3 (series [] [] (payload ∷ one ∷ payload ∷ []) ∷ []) (series [] [] (payload ∷ N ∷ one ∷ []) ∷ []) ∷ []
+    ≡ gives 3 (series [] [] (N ∷ N ∷ N ∷ []) ∷ []) ∷ gives 3 (series [] [] (N ∷ N ∷ payload ∷ []) ∷ []) ∷ gives 3
+    (series [] [] (N ∷ N ∷ N ∷ []) ∷ []) ∷ []
 unfolding computing
 missing-compared = refl
+
+-- no row goes for it, and labels and names are edited as for every comparison
+missing-row-stays : on (plainly 16) 2 (series fed (press A ∷ []) (one ∷ two ∷ []) ∷ []) (series waste (press A ∷ []) (N ∷ N ∷ []) ∷ []) ∷ on
+    (ask 10 0 0 2 [] []) 2 (series fed (press A ∷ []) (one ∷ two ∷ []) ∷ []) (series waste (press A ∷ []) (N ∷ N ∷ []) ∷ []) ∷ []
+    ≡ gives 2 (series fed (press A ∷ []) (N ∷ N ∷ []) ∷ []) ∷ gives 2 (series [] (press A ∷ []) (N ∷ N ∷ []) ∷ []) ∷ []
+unfolding computing
+missing-row-stays = refl
 
 -- 01: Non-comparison arithmetic first drops series with only N on either side; p = 0 counts as only N. Comparisons drop none.
 dropped-first : on (plainly 0) 2 (series [] [] (N ∷ payload ∷ []) ∷ []) (series [] [] (one ∷ one ∷ []) ∷ []) ∷ on (plainly 0) 2

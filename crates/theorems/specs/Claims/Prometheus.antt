@@ -1,15 +1,16 @@
--- Demand 2, by proof: `and` and `unless` reading by reading, and every match of a group join, as Prometheus has them. Assumes nothing.
+-- Demand 2, by proof: `and` and `unless`, every match of a group join, and comparisons, as Prometheus has them. Assumes nothing.
 use Prim.Native.Nat.{ℕ, _<_}
 use mathlib.Core.Path.{_≡_}
 use mathlib.Core.Bool.{Bool, true, false, not, cond}
+use mathlib.Core.Option.{Option, none, some}
 use mathlib.Core.List.{List, [], _∷_, List·Memᴰ}
 use lib.ListN.{length, getD}
 use Rattle.operator.specs.declared.Operator.{Operator}
 use Rattle.operator.specs.declared.Operator.the-variants.{And, Unless}
-use Rattle.operator.specs.Kinds.{Kind, arithmetic, comparison, setRule, fallback, notCarried, kindOf}
+use Rattle.operator.specs.Kinds.{Comparison, Kind, arithmetic, comparison, setRule, fallback, notCarried, kindOf}
 use Rattle.operator.specs.Operators.{isLogicalOp, isCarried}
 use Rattle.model.specs.Lists.{keep, isEmpty, gather}
-use Rattle.model.specs.Reading.{missing, noReading, scalarOp}
+use Rattle.model.specs.Reading.{missing, noReading, holds, oneOrZero, scalarOp}
 use Rattle.model.specs.Labels.{Labels}
 use Rattle.model.specs.Query.{Query, sameKey, Side, left, right, group}
 use Rattle.model.specs.Vector.{Series, Shape}
@@ -146,6 +147,27 @@ ManySideApart =
     → (ls rs ls′ rs′ : List Series) → ofSide (other many) (placed ls rs) ≡ ofSide (other many) (placed ls′ rs′)
     → (l l′ : List (Ranked Rank Series)) → verdict q ls rs ≡ answer l → verdict q ls′ rs′ ≡ answer l′
     → (s : Placed) → s .place .side ≡ many → In s (placed ls rs) → In s (placed ls′ rs′) → givenBy (s .place) l ≡ givenBy (s .place) l′
+
+-- comparisons
+
+-- what an instant vector has of a reading: a sample, or nothing
+abbrev pub sampleOf : ℕ → Option ℕ
+sampleOf x = cond (missing x) none (some x)
+
+-- Prometheus: Vector elements for which the expression is not true or which do not find a match on the other side of the expression get
+-- dropped from the result. (With `bool`, its page says, what would have been dropped has the value 0: this is so of matched elements alone,
+-- as runs against it show. 02: no element on the right, no result.)
+abbrev pub comparisonOf : Bool → Comparison → Option ℕ → Option ℕ → Option ℕ
+comparisonOf bool c none b = none
+comparisonOf bool c (some a) none = none
+comparisonOf true c (some a) (some b) = some (oneOrZero (holds c a b))
+comparisonOf false c (some a) (some b) = cond (holds c a b) (some a) none
+
+-- every comparison, plain and bool, of any two readings
+abbrev pub ComparisonReads : Type 0
+ComparisonReads =
+    (o : Operator) (c : Comparison) → kindOf o ≡ comparison c
+    → (bool : Bool) (a b : ℕ) → sampleOf (scalarOp o bool a b) ≡ comparisonOf bool c (sampleOf a) (sampleOf b)
 
 -- What a call that answers writes are the series of its verdict, so that these claims are about calls.
 pub record Answers (q : Query) (ls rs : List Series) (shape : Shape) (outcome : Outcome) : Type 0 where
