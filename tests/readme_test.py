@@ -37,7 +37,7 @@ def file_text(*path):
 class Examples(unittest.TestCase):
     def test_quotes(self):
         quotes = [(command, said) for (kind, command), (_, said) in zip(BLOCKS, BLOCKS[1:]) if kind == 'sh' and './quote' in command]
-        self.assertEqual(len(quotes), 5)
+        self.assertEqual(len(quotes), 6)
         for command, said in quotes:
             words = shlex.split(command.partition('./quote ')[2])
             paths = [os.path.join(built.ROOT, word) if word.startswith('examples/') else word for word in words]
