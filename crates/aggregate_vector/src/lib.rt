@@ -1,4 +1,6 @@
 // An aggregate over one vector: request and vector are taken, the series numbered by their groups, and the rule run.
+#![tactic(auto)]
+
 ghost use Rattle.std.specs.Prelude.{◌≡◌, ◌+◌, ◌≤◌, ◌<◌, length};
 ghost use Rattle.model.specs.Limits.{max_series};
 ghost use Rattle.labels.specs.Names.{names_of};

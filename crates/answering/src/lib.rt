@@ -1,5 +1,7 @@
 // The driver of every family: the answer's rows are planned, their records tallied and their room tested; then they are written. Nothing is
 // written before, so a refusal leaves the output parts as they were.
+#![tactic(auto)]
+
 mod families; // a rule's plan, and the record and the row of a code, each by a match
 
 ghost use Rattle.std.specs.Prelude.{◌≡◌, false, ℕ, ◌*◌, ◌≤◌, length};

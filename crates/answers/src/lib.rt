@@ -1,4 +1,6 @@
 // What the answers of all operators share: their outcome, what they take and whether it fits, and a row copied.
+#![tactic(auto)]
+
 ghost use Rattle.std.specs.Prelude.{◌≡◌, ◌+◌, ◌*◌, ◌≤◌, ◌<◌, length};
 ghost use Rattle.model.specs.Limits.{max_series, max_points};
 ghost use Rattle.answers.specs.Outcomes.{told, refusal};

@@ -1,4 +1,6 @@
 // A query run over two vectors: both are taken, their keys numbered, and the operator's rule run.
+#![tactic(auto)]
+
 mod dispatch; // the rule of an operator over both sides
 
 ghost use Rattle.std.specs.Prelude.{◌≡◌, not, ◌<◌, length};

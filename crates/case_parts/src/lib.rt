@@ -1,5 +1,7 @@
 // The numbers, readings and parts of a stored case. Of a part that the input's end cuts there is what stands before the end, so that a loop over cases
 // needs no test but whether it has come to the end.
+#![tactic(auto)]
+
 ghost use Rattle.std.specs.Prelude.{◌≡◌, ◌+◌, ◌≤◌, length, get_or};
 ghost use Rattle.case_parts.specs.Parts.{NumberAt, PartAt, reading_at};
 

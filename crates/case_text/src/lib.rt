@@ -1,4 +1,6 @@
 // What the programs that run cases print. No contract can say what is written.
+#![tactic(auto)]
+
 use libc::STDOUT_FILENO;
 
 pub fn print(text: &[u8]) {

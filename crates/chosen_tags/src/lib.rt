@@ -1,4 +1,6 @@
 // The tags of a record that are in its matching key.
+#![tactic(auto)]
+
 ghost use Rattle.std.specs.Prelude.{◌≡◌};
 ghost use Rattle.model.specs.Query.{key_of};
 ghost use Rattle.labels.specs.Names.{names_of};

@@ -1,4 +1,6 @@
 // The first and the last places of a key, on one side or on two, packed in one number and read off it.
+#![tactic(auto)]
+
 ghost use Rattle.std.specs.Prelude.{◌≡◌, ◌≤◌, ◌<◌};
 ghost use Rattle.end_codes.specs.Codes.{codes, side_code, both_code};
 ghost use Rattle.end_codes.specs.Codes.{side_first, side_last, left_code, right_code, left_first, left_last, right_first, right_last};

@@ -1,4 +1,6 @@
 // The export for the shop screen: a vector as text, in the Prometheus text exposition format.
+#![tactic(auto)]
+
 mod series_lines; // the lines of a series
 mod vector_lines; // the series of a vector: the first at fault, and their lines
 

@@ -1,4 +1,6 @@
 // Whether the format can carry a series: its name and keys, its tag values, the size of its readings.
+#![tactic(auto)]
+
 mod utf8; // whether bytes are UTF-8
 mod words; // whether bytes are a name or a key
 

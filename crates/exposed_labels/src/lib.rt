@@ -1,4 +1,6 @@
 // A record's name and tags as the format has them: measured, and written at a place of a lent part.
+#![tactic(auto)]
+
 ghost use Rattle.std.specs.Prelude.{◌≡◌, ◌+◌, ◌≤◌, length};
 ghost use Rattle.writing.specs.Written.{Put};
 ghost use Rattle.writing.specs.Measured.{Measured};

@@ -1,4 +1,6 @@
 // What a line has behind its labels, a reading and its time: measured, and written at a place of a lent part.
+#![tactic(auto)]
+
 mod thousandths; // a reading's size in thousandths, rounded
 
 ghost use Rattle.std.specs.Prelude.{◌≡◌, ◌+◌, ◌≤◌, length};

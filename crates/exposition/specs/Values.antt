@@ -1,5 +1,5 @@
 -- A reading printed with three decimals, in whole numbers. Assumes nothing.
-use Rattle.std.specs.Prelude.{ℕ, ◌+◌, ◌-◌, ◌*◌, ◌/◌, ◌%◌, ◌^◌, Bool, not, ◌&&◌, ◌||◌, cond, List, [], ◌∷◌, ◌++◌, leb, ltb, eqb}
+use Rattle.std.specs.Prelude.{ℕ, ◌+◌, ◌-◌, ◌*◌, ◌/◌, ◌%◌, ◌^◌, Bool, true, not, ◌&&◌, ◌||◌, cond, List, [], ◌∷◌, ◌++◌, leb, ltb, eqb}
 use Rattle.model.specs.Reading.{missing}
 use Rattle.model.specs.Numerals.{digits, decimal}
 
@@ -26,9 +26,9 @@ scale x = cond (eqb (exponent_of x) 0) 1074 (1075 - exponent_of x)
 unfoldable pub too_large : ℕ → Bool
 too_large x = not (missing x) && leb (2 ^ 40 * 2 ^ scale x) (mantissa x)
 
--- 02: an exact half to the even last digit. Whether it is rounded up, where the whole number below it is q
+-- 02: a half away from zero. Whether an exact half is rounded up, where the whole number below it is q
 unfoldable pub half_up : ℕ → Bool
-half_up q = eqb (q % 2) 1
+half_up q = true
 
 -- whether n / d is rounded up, where its whole part is q and its remainder r
 abbrev pub rounds_up : ℕ → ℕ → ℕ → Bool

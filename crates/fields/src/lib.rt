@@ -1,4 +1,6 @@
 // Fields, a length and so many bytes: found at a place, and their bytes compared.
+#![tactic(auto)]
+
 ghost use Rattle.std.specs.Prelude.{◌≡◌};
 ghost use Rattle.model.specs.Labels.{below, same_bytes};
 ghost use Rattle.fields.specs.Fields.{field_at};

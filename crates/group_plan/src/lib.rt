@@ -1,4 +1,6 @@
 // The plan of an aggregation: the codes of its groups, listed. It refuses nothing.
+#![tactic(auto)]
+
 ghost use Rattle.std.specs.Prelude.{◌≤◌, length};
 ghost use Rattle.model.specs.Limits.{max_series};
 ghost use Rattle.key_ends.specs.Ends.{SideEnds};

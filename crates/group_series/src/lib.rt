@@ -1,4 +1,6 @@
 // The row of a group of series: the aggregate of their readings, point by point.
+#![tactic(auto)]
+
 mod running; // the running aggregate at a point
 mod points; // the running aggregates of a row of points
 

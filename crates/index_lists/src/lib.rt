@@ -1,4 +1,6 @@
 // Numbers noted in an array, and the right places that a left series meets.
+#![tactic(auto)]
+
 ghost use Rattle.std.specs.Prelude.{◌≡◌, ◌+◌, ◌≤◌, ◌<◌, length, set};
 ghost use Rattle.model.specs.Limits.{max_series};
 ghost use Rattle.index_lists.specs.Places.{NotedIf, NotedAll, coded_met};

@@ -1,5 +1,7 @@
 // A join planned: each many-side series with every same-key one-side series, its merges tried, its answer rows listed
 // by their codes, and the members of each row marked. The first merge that fails ends it.
+#![tactic(auto)]
+
 mod lead_marks; // the one-side series that a many-side series meets, each by its leader, and the leaders' last places
 mod join_leads; // the merges behind the leaders tried; the rows that they give, listed and marked
 mod place_plans; // one many-side place: its leaders marked, its rows planned

@@ -1,4 +1,6 @@
 // The label record of a code of a join: its many-side record edited from its one-side record, measured, and written.
+#![tactic(auto)]
+
 ghost use Rattle.std.specs.Prelude.{◌≡◌, length};
 ghost use Rattle.model.specs.Record.{encode};
 ghost use Rattle.labels.specs.Names.{names_of};

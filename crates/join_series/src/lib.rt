@@ -1,4 +1,6 @@
 // What a join does with two series, and its answer rows by their codes.
+#![tactic(auto)]
+
 mod join_rows; // the answer row of a code
 
 pub use join_rows::put_join_row;

@@ -1,4 +1,6 @@
 // Label records with the tags of their key: sizes without writing, and writing at a place, with no work array.
+#![tactic(auto)]
+
 ghost use Rattle.std.specs.Prelude.{◌+◌, ◌-◌, ◌≤◌, length};
 ghost use Rattle.model.specs.Record.{encode_tags, encode};
 ghost use Rattle.labels.specs.Names.{names_of};

@@ -1,4 +1,6 @@
 // The first and the last places of keys on two sides, found in linear time by tables of key numbers.
+#![tactic(auto)]
+
 ghost use Rattle.std.specs.Prelude.{◌≡◌, ◌+◌, ◌*◌, ◌≤◌, ◌<◌, length};
 ghost use Rattle.plan.specs.Keys.{first_of, last_of};
 ghost use Rattle.key_ends.specs.Ends.{ends_code, SideEnds, SideEndsPut, PairEndsPut};

@@ -1,4 +1,6 @@
 // The keys of two vectors, numbered by their first places, in expected linear time by a table of hashes.
+#![tactic(auto)]
+
 mod key_lookup; // the number of one record's key
 mod record_keys; // one record's key, hashed and compared
 

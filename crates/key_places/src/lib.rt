@@ -1,4 +1,6 @@
 // The first and the last place of a key among key numbers, and whether these are all of its places.
+#![tactic(auto)]
+
 ghost use Rattle.std.specs.Prelude.{◌≡◌, ◌≤◌, ◌<◌, length};
 ghost use Rattle.side_parts.specs.Lent.{lent};
 ghost use Rattle.plan.specs.Keys.{first_of, last_of};

@@ -1,4 +1,6 @@
 // The key numbers of both sides of a call.
+#![tactic(auto)]
+
 mod dropped; // series with only missing readings taken out
 
 ghost use Rattle.std.specs.Prelude.{◌≡◌, ◌+◌, ◌*◌, ◌≤◌, length};

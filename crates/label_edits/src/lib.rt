@@ -1,4 +1,6 @@
 // Label records edited by their matching list: measured, and written at their place.
+#![tactic(auto)]
+
 ghost use Rattle.std.specs.Prelude.{◌+◌, ◌-◌, ◌≤◌, length};
 ghost use Rattle.model.specs.Record.{encode};
 ghost use Rattle.model.specs.Edits.{remove_tags_on, remove_tags_ignoring};

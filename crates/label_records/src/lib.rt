@@ -1,4 +1,6 @@
 // A label record read at a place of the label array, or refused.
+#![tactic(auto)]
+
 ghost use Rattle.std.specs.Prelude.{◌≡◌, true, ◌&&◌, [], ◌≤◌, length, drop};
 ghost use Rattle.model.specs.Labels.{may_follow};
 ghost use Rattle.model.specs.Record.{decode_tags, decode};

@@ -1,4 +1,6 @@
 // Label lists: searched, and which tags a query matches by.
+#![tactic(auto)]
+
 ghost use Rattle.std.specs.Prelude.{◌≡◌};
 ghost use Rattle.model.specs.Edits.{is_listed, is_star};
 ghost use Rattle.labels.specs.Names.{names_of};

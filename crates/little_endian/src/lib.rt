@@ -1,4 +1,6 @@
 // Little-endian numbers of two, four and eight bytes, each read as its two halves.
+#![tactic(auto)]
+
 ghost use Rattle.std.specs.Prelude.{◌≡◌, ◌+◌, ◌≤◌, length};
 ghost use Rattle.model.specs.Vector.{two_bytes_at, four_bytes_at, eight_bytes_at};
 ghost use Rattle.little_endian.specs.Numbers.{Read};

@@ -1,4 +1,6 @@
 // One row merged into another.
+#![tactic(auto)]
+
 ghost use Rattle.std.specs.Prelude.{◌≡◌, length};
 ghost use Rattle.model.specs.Row.{overwritten};
 ghost use Rattle.mergeable.specs.Mergeable.{source_first};

@@ -1,4 +1,6 @@
 // Whether rows merge, told by counting the places where both have a reading; nothing is written.
+#![tactic(auto)]
+
 ghost use Rattle.std.specs.Prelude.{◌≡◌, ◌&&◌, length};
 ghost use Rattle.model.specs.Row.{overlaps, overwritten, merged};
 ghost use Rattle.mergeable.specs.Mergeable.{either_gap, source_first, merged_if, mergeable};

@@ -1,5 +1,7 @@
 // Rows of one array merged by their groups, for a plan, which is told of a row that may not be merged: the series of a
 // key into the last of them, and those behind a leader into it.
+#![tactic(auto)]
+
 ghost use Rattle.std.specs.Prelude.{◌≡◌, ◌+◌, ◌-◌, ◌*◌, ◌≤◌, ◌<◌, length, take, drop};
 ghost use Rattle.plan.specs.Merging.{merge_group, merge_lead};
 ghost use Rattle.merging.specs.Groups.{AbsorbedAs, MergedGroup};

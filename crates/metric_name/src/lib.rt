@@ -1,4 +1,6 @@
 // Label records looked up: the state and the value of a label.
+#![tactic(auto)]
+
 ghost use Rattle.std.specs.Prelude.{◌≡◌};
 ghost use Rattle.std.proofs.Math.Option.{some};
 ghost use Rattle.model.specs.Labels.{value_of};

@@ -1,1 +1,2 @@
 // Definitions and their laws, in specs/. No code.
+#![tactic(auto)]

@@ -1,4 +1,6 @@
 // Numbers as digits: counted, and written at a place of a lent part.
+#![tactic(auto)]
+
 ghost use Rattle.std.specs.Prelude.{◌≡◌, ◌+◌, ◌≤◌, ◌<◌, length};
 ghost use Rattle.writing.specs.Written.{Put};
 ghost use Rattle.model.specs.Numerals.{digit, digits, digit_count, decimal};

@@ -1,4 +1,6 @@
 // Operators, numbered in the Rust's order, and their tests.
+#![tactic(auto)]
+
 ghost use Rattle.std.specs.Prelude.{◌≡◌};
 ghost use Rattle.operator.specs.Operators.{coded_of, is_comparison, is_logical_op, is_carried};
 

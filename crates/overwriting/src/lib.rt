@@ -1,5 +1,7 @@
 // Rows of one array written over one another, for a row of the answer, whose merges a plan has tried: no place is counted
 // again. The series of a key over the last of them, and those that are marked behind a leader over it.
+#![tactic(auto)]
+
 ghost use Rattle.std.specs.Prelude.{◌≡◌, ◌+◌, ◌-◌, ◌*◌, ◌≤◌, ◌<◌, length};
 ghost use Rattle.overwriting.specs.Overwriting.{overwritten_if, overwritten_by, in_group, row_of_several};
 ghost use Rattle.overwriting.specs.Marks.{bits_from, marked_behind, row_of_marked};

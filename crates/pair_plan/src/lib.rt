@@ -1,4 +1,6 @@
 // The plan of one-to-one: every merge tried, then the codes of the answer's rows listed.
+#![tactic(auto)]
+
 mod pairs; // which left series begin a pair, and the codes of the pairs
 mod pair_checks; // the merges tried, key by key
 

@@ -1,4 +1,6 @@
 // The label record of a code of one-to-one: its left record edited, measured, and written at its place.
+#![tactic(auto)]
+
 mod adjusted_labels; // a left record edited, `adjust_binary_op_tags`
 
 ghost use Rattle.std.specs.Prelude.{◌+◌, ◌≤◌, length};

@@ -1,1 +1,2 @@
 // Definitions and laws, in specs/. No code.
+#![tactic(auto)]

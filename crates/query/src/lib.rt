@@ -1,4 +1,6 @@
 // Queries, taken from bytes; and requests for an aggregate.
+#![tactic(auto)]
+
 mod aggregations; // a request for an aggregate
 mod list_ends; // where a label list ends
 mod operator_table; // the constant table that a query's operator byte indexes

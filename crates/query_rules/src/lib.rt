@@ -1,4 +1,6 @@
 // What a query says of the names of its answer's series.
+#![tactic(auto)]
+
 ghost use Rattle.std.specs.Prelude.{◌≡◌};
 ghost use Rattle.model.specs.Query.{resets};
 

@@ -1,4 +1,6 @@
 // Readings. A reading is the 64 bits of a binary64; it is missing where they are a NaN's.
+#![tactic(auto)]
+
 ghost use Rattle.std.specs.Prelude.{◌≡◌, cond, not, ◌+◌, ◌≤◌, T, eqb};
 ghost use Rattle.std.specs.Float.{binary64};
 ghost use Rattle.std.specs.Float.Ieee.{to_bits, nan_bits};

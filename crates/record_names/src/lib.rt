@@ -1,4 +1,6 @@
 // The name of a label record: measured, and written at its place.
+#![tactic(auto)]
+
 ghost use Rattle.std.specs.Prelude.{◌≡◌, cond, [], ◌+◌, ◌-◌, ◌≤◌, length};
 ghost use Rattle.model.specs.Record.{encode_field};
 ghost use Rattle.record_tags.specs.Lenient.{labels_of};

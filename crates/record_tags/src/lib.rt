@@ -1,4 +1,6 @@
 // The tags of a label record, one after another.
+#![tactic(auto)]
+
 ghost use Rattle.record_tags.specs.Cursors.{TagsOf, NextAt, every};
 
 use fields::Place;

@@ -1,4 +1,6 @@
 // The code of an answer row of a join: a many-side place and a one-side place as one number, packed and read off it.
+#![tactic(auto)]
+
 ghost use Rattle.std.specs.Prelude.{◌≡◌, ◌≤◌};
 ghost use Rattle.plan.specs.Joins.{row_code, many_place, one_place};
 

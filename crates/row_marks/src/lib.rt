@@ -1,5 +1,7 @@
 // The members of an answer row of a join behind its one-side place, which leads them, as marks: eight words of 64 bits a
 // row.
+#![tactic(auto)]
+
 ghost use Rattle.std.specs.Prelude.{◌≡◌, cond, ◌+◌, ◌*◌, ◌≤◌, ◌<◌, eqb, length, take, drop};
 ghost use Rattle.row_marks.specs.Words.{unmarked, word_of, members_to, WordsPut};
 

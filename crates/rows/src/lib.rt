@@ -1,4 +1,6 @@
 // An operator over two rows into a third.
+#![tactic(auto)]
+
 mod arithmetic; // the five arithmetic operators on two readings
 mod comparisons; // the six comparisons of two readings, plain and bool
 mod arithmetic_rows; // the arithmetic operators over two rows, one loop each

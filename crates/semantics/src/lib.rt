@@ -1,1 +1,2 @@
 // What a call means, in specs/. No code.
+#![tactic(auto)]

@@ -1,4 +1,6 @@
 // The plan of a set operator: the codes of its answer's rows, listed. It refuses nothing.
+#![tactic(auto)]
+
 mod left_series; // whether a left series answers, and the ends of what it meets
 mod set_operators; // what the set operators differ in
 mod set_listing; // the codes of the answer's rows, listed

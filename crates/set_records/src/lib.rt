@@ -1,4 +1,6 @@
 // The label record of a code of a set rule: measured, and written at its place.
+#![tactic(auto)]
+
 ghost use Rattle.std.specs.Prelude.{◌≡◌, ◌+◌, ◌≤◌, ◌<◌, length};
 ghost use Rattle.model.specs.Limits.{max_label_bytes};
 ghost use Rattle.model.specs.Record.{encode};

@@ -1,4 +1,6 @@
 // The row of a code of a set rule, and whether a rule leaves a reading in a row.
+#![tactic(auto)]
+
 mod binaryop; // a rule on two readings
 mod set_rows; // a rule on two rows, one loop each
 mod set_points; // a rule at one point

@@ -1,4 +1,6 @@
 // A join's edited record: the many side's labels, with the join labels set from a one-side series, the source; measured, and written at its place.
+#![tactic(auto)]
+
 mod tag_tests; // which of the source's tags are set, and which of the many side's remain
 mod edited_tags; // a walk over both records' tags in key order: the edited record's next tag, with no work array
 mod naming; // the edited record's name: chosen, measured, and written

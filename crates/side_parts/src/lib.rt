@@ -1,4 +1,6 @@
 // The shape of a side's rows; the record and the row of a series, as parts of its label array and readings; a row copied.
+#![tactic(auto)]
+
 ghost use Rattle.std.specs.Prelude.{◌≡◌, ◌+◌, ◌-◌, ◌*◌, ◌≤◌, ◌<◌, length};
 ghost use Rattle.side_parts.specs.Sides.{record_at, row_at, Positions};
 

@@ -1,4 +1,6 @@
 // The matching keys of records: compared in full, and hashed.
+#![tactic(auto)]
+
 ghost use Rattle.std.specs.Prelude.{◌≡◌};
 ghost use Rattle.model.specs.Labels.{same_tags};
 ghost use Rattle.labels.specs.Matchings.{matching_of};

@@ -1,6 +1,8 @@
 // Runs cases from standard input and prints what the operators and merging give.
 // A case: what to run (1 byte), operator or allowance (1), bool (1), one spare byte, the lengths of two rows (2 each, at most
 // 2,048), the rows.
+#![tactic(auto)]
+
 ghost use Rattle.std.specs.Prelude.{◌≡◌, ◌*◌, ◌≤◌, length};
 
 use case_parts::{number_at, reading_at};

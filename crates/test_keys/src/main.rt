@@ -2,6 +2,8 @@
 // numbers, a bar, and the right side's. A case is a byte for the matching (0 all, 1 on, 2 ignoring; 3 to 5 with the
 // name in the key) and three parts: the matching's list, the left label part and the right one, of no points. A part is
 // two bytes of length, the low byte first, and that many bytes.
+#![tactic(auto)]
+
 ghost use Rattle.std.specs.Prelude.{◌≡◌, ◌+◌, length};
 ghost use Rattle.side_parts.specs.Sides.{Positions};
 ghost use Rattle.test_keys.specs.Sides.{Side, SideAt};

@@ -1,5 +1,7 @@
 // Runs the cases on standard input, and writes a line for each. A case is a byte that says what is asked, and three parts: a record, a
 // second record or a label, and a list; a part is two bytes of length, the low one first, and its bytes.
+#![tactic(auto)]
+
 use case_parts::part_at;
 use case_text::{print, print_bool, print_bytes, print_front, print_size};
 use label_records::Record;

@@ -1,4 +1,6 @@
 // Takes the queries of standard input, each after its length (2 bytes), and prints what they ask.
+#![tactic(auto)]
+
 use case_parts::part_at;
 use case_text::{print, print_number};
 use labels::Matching;

@@ -2,6 +2,8 @@
 // tags, a hash of the tags, how many tags and bytes are measured, and the edited record, where it has no more than 32 tags.
 // A case is a part: a byte that is 1 where the name is reset, the join list and the skip list, each a part, and the three records. A part is
 // two bytes of length, the low byte first, and that many bytes.
+#![tactic(auto)]
+
 ghost use Rattle.std.specs.Prelude.{◌≤◌, length};
 ghost use Rattle.model.specs.Limits.{max_label_bytes};
 ghost use Rattle.set_tags.specs.Records.{ShortRecords};

@@ -1,4 +1,6 @@
 // Prints what `vecop` prints for the inputs on standard input, each after its length (4 bytes, the low one first).
+#![tactic(auto)]
+
 ghost use Rattle.std.specs.Prelude.{◌≤◌, length};
 ghost use Rattle.vecop_run.specs.Vecop.{max_text};
 

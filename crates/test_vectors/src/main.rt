@@ -1,6 +1,8 @@
 // Takes the vectors on standard input, and writes a line for each: what taking comes to, with 01's number and place for a fault, then the
 // positions that it noted. A vector is two bytes of length and the label part, then two bytes that say how many readings are lent; in
 // both numbers the low byte comes first.
+#![tactic(auto)]
+
 use case_parts::{number_at, part_at};
 use case_text::{print, print_number};
 use libc::STDIN_FILENO;

@@ -1,1 +1,2 @@
 // What is proved of a call, in specs/. No code.
+#![tactic(auto)]

@@ -1,4 +1,6 @@
 // Vectors: taken from bytes and readings.
+#![tactic(auto)]
+
 mod label_reader; // a reader that borrows the label array
 mod record_walk; // the records of a label array, walked by it
 

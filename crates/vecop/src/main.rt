@@ -1,4 +1,6 @@
 // Reads a query and two vectors from standard input, and prints the answer or the refusal; or `unreadable`.
+#![tactic(auto)]
+
 use libc::{STDIN_FILENO, STDOUT_FILENO};
 
 // The input's buffer holds a byte more than an input may have.

@@ -1,4 +1,6 @@
 // What the program prints for an input.
+#![tactic(auto)]
+
 mod frame; // the input's three parts, and the parts of a vector
 mod label_text; // a record's labels
 mod outcome_text; // an outcome, and `unreadable`

@@ -1,4 +1,6 @@
 // Why a vector that a call was given is refused.
+#![tactic(auto)]
+
 ghost use Rattle.std.specs.Prelude.{◌≡◌, ◌<◌};
 ghost use Rattle.timeseries.specs.Takes.{taken_number, taken_place};
 ghost use Rattle.answers.specs.Outcomes.{told, refusal};

@@ -1,4 +1,6 @@
 // Bytes written at a place of a lent part.
+#![tactic(auto)]
+
 ghost use Rattle.std.specs.Prelude.{[], ◌∷◌, ◌+◌, ◌-◌, ◌≤◌, ◌<◌, length, take, drop};
 ghost use Rattle.writing.specs.Written.{Put};
 
