@@ -1,0 +1,13 @@
+-- `mod_rows` meets its contract. Assumes nothing.
+use Prim.Native.Nat.{◌-◌}
+use lib.ListN.{length}
+use Rattle.operator.specs.Kinds.{remainder}
+use Rattle.model.specs.Reading.{calculated}
+use Rattle.model.specs.Laws.Zipping.{Written}
+use Rattle.rows.proofs.arithmetic_rows.mod_rows.Given as goal
+
+abbrev pub invariant-loop-i : goal.invariant-loop-i
+invariant-loop-i l = Written (calculated remainder) l.left l.right l.initial.out l.out l.i
+
+abbrev pub decreases-loop-i : goal.decreases-loop-i
+decreases-loop-i l = length l.initial.out - l.i

@@ -1,0 +1,13 @@
+-- `neq_rows` meets its contract. Assumes nothing.
+use Prim.Native.Nat.{◌-◌}
+use lib.ListN.{length}
+use Rattle.operator.specs.Kinds.{unequal}
+use Rattle.model.specs.Reading.{compared}
+use Rattle.model.specs.Laws.Zipping.{Written}
+use Rattle.rows.proofs.equality_rows.neq_rows.Given as goal
+
+abbrev pub invariant-loop-i : goal.invariant-loop-i
+invariant-loop-i l = Written (compared l.as_bool unequal) l.left l.right l.initial.out l.out l.i
+
+abbrev pub decreases-loop-i : goal.decreases-loop-i
+decreases-loop-i l = length l.initial.out - l.i
