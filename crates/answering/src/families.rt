@@ -21,7 +21,7 @@ use query::{Aggregate, Query};
 use side_parts::Shape;
 
 // What an aggregate does with each group of the first side's series: the tags that its label keeps, and whether it keeps the name.
-#[derive(Drop)]
+#[derive(Clone, Copy)]
 pub struct Groups {
     pub aggregate: Aggregate,
     pub matching: Matching,
@@ -29,7 +29,7 @@ pub struct Groups {
 }
 
 // A rule. Beside it two lists of labels are lent.
-#[derive(Drop)]
+#[derive(Clone, Copy)]
 pub enum Rule {
     Pairs(Query), // one-to-one: the first list is that of the matching
     Join(Work), // a join, its many side the first: the labels that it joins by, and those that it leaves alone

@@ -11,7 +11,7 @@ use operator::Operator;
 use side_parts::Shape;
 
 // What a call comes to. The case `Cut` is also that of sizes above a limit.
-#[derive(Drop)]
+#[derive(Clone, Copy)]
 pub enum Outcome {
     Answer {
         series: usize,
@@ -51,7 +51,7 @@ pub enum Outcome {
 }
 
 // An outcome in the numbers of 01 and 02.
-#[derive(Drop)]
+#[derive(Clone, Copy)]
 pub enum Told {
     Answer {
         series: usize,
@@ -107,7 +107,7 @@ pub fn told_as(x: Outcome) -> Told
 }
 
 // What a plan comes to: how many rows its answer has, or the series kept and the one that failed to merge.
-#[derive(Drop)]
+#[derive(Clone, Copy)]
 pub enum Planned {
     Rows(usize),
     LeftTwice { kept: usize, failed: usize },
@@ -115,7 +115,7 @@ pub enum Planned {
 }
 
 // Label bytes of an answer, and whether a record has too many tags.
-#[derive(Drop)]
+#[derive(Clone, Copy)]
 pub struct Tally {
     pub bytes: usize,
     pub too_many_tags: bool,
@@ -139,7 +139,7 @@ pub fn tallied(t: Tally, s: Size) -> Tally
     }
 }
 
-#[derive(Drop)]
+#[derive(Clone, Copy)]
 pub enum Room {
     Fits,
     TooLarge,

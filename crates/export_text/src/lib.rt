@@ -21,7 +21,7 @@ use side_parts::Shape;
 use timeseries::Taken;
 
 // What an export comes to: the text's length, or a refusal's number and fields.
-#[derive(Drop)]
+#[derive(Clone, Copy)]
 pub enum Exported {
     Text {
         bytes: usize,

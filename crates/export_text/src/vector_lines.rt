@@ -16,7 +16,7 @@ use exposed_faults::Fit;
 use side_parts::{Shape, record, row};
 
 // The first series at fault, by its place.
-#[derive(Drop)]
+#[derive(Clone, Copy)]
 pub(crate) enum Found {
     Sound,
     BadLabels(usize),

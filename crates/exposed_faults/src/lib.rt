@@ -79,7 +79,7 @@ fn some_too_large(row: &[u64]) -> bool
     false
 }
 
-#[derive(Drop)]
+#[derive(Clone, Copy)]
 pub enum Fit {
     Fits,
     BadLabels,

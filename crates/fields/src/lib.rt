@@ -42,7 +42,7 @@ pub fn is_below(a: &[u8], b: &[u8]) -> bool
 }
 
 // A field at a place: where its bytes start and end.
-#[derive(Drop)]
+#[derive(Clone, Copy)]
 pub enum Place {
     At { start: usize, end: usize },
     Short,

@@ -10,7 +10,7 @@ use query::Aggregate;
 
 // What the present readings at a point come to so far. Where the count is 0 there is none, and the floats are not
 // looked at.
-#[derive(Drop)]
+#[derive(Clone, Copy)]
 pub(crate) struct Running {
     pub sum: f64,
     pub lowest: f64,

@@ -32,7 +32,7 @@ fn try_lead(
 }
 
 // What the merges of a many-side series come to.
-#[derive(Drop)]
+#[derive(Clone, Copy)]
 pub(crate) enum Checked {
     Done,
     Failed { kept: usize, failed: usize },

@@ -13,7 +13,7 @@ use crate::join_leads::Checked;
 use crate::{join_leads, lead_marks};
 
 // What planning a many-side place comes to: how many answer rows there are by now, or the first merge that fails.
-#[derive(Drop)]
+#[derive(Clone, Copy)]
 pub(crate) enum Placed {
     Rows(usize),
     Failed { kept: usize, failed: usize },

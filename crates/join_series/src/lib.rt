@@ -9,7 +9,7 @@ use set_tags::Naming;
 
 // What is done with each pair of series: the operator, and whether it gives 1 or 0; whether the many side is the left
 // one; who names the answer; and how many places may overlap in a merge.
-#[derive(Drop)]
+#[derive(Clone, Copy)]
 pub struct Work {
     pub operator: Operator,
     pub as_bool: bool,

@@ -14,7 +14,7 @@ use labels::Matching;
 use record_tags::Next;
 
 // How many tags there are, and their bytes.
-#[derive(Drop)]
+#[derive(Clone, Copy)]
 pub struct Size {
     pub tags: usize,
     pub bytes: usize,

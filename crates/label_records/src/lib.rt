@@ -25,7 +25,7 @@ fn may_follow(p: &[u8], k: &[u8], good: bool) -> bool
 }
 
 // A record that was read: where the bytes behind it start.
-#[derive(Drop)]
+#[derive(Clone, Copy)]
 pub enum Record {
     Ok { next: usize },
     Cut,

@@ -53,7 +53,7 @@ pub fn is_star(list: &[u8]) -> bool
 }
 
 // Which tags a query matches by.
-#[derive(Drop)]
+#[derive(Clone, Copy)]
 pub enum Matching {
     All,
     On,

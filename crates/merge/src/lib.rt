@@ -8,7 +8,7 @@ ghost use Rattle.merge.specs.Merging.{MergedAs};
 
 use operator::Operator;
 
-#[derive(Drop)]
+#[derive(Clone, Copy)]
 pub enum Merged {
     Done,
     Overlapping,

@@ -23,7 +23,7 @@ fn absorb(rows: &[u64], x: usize, g: usize, i: usize, allowance: usize, dst: &mu
 }
 
 // What the merges of a group come to.
-#[derive(Drop)]
+#[derive(Clone, Copy)]
 pub enum Merges {
     Done,
     FailedAt(usize),

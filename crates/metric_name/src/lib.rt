@@ -53,7 +53,7 @@ fn find_tag(rec: &[u8], key: &[u8]) -> Place
 }
 
 // Where the value of a label stands, or why it does not.
-#[derive(Drop)]
+#[derive(Clone, Copy)]
 enum Value {
     At { start: usize, end: usize },
     Absent,
@@ -89,7 +89,7 @@ fn find_value(labels: &[u8], key: &[u8]) -> Value
 }
 
 // What the lookup of a label in the record at the start of the bytes comes to.
-#[derive(Drop)]
+#[derive(Clone, Copy)]
 pub enum TagState {
     Present,
     Absent,

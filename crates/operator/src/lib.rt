@@ -4,7 +4,7 @@
 ghost use Rattle.std.specs.Prelude.{◌≡◌};
 ghost use Rattle.operator.specs.Operators.{coded_of, is_comparison, is_logical_op, is_carried};
 
-#[derive(Drop)]
+#[derive(Clone, Copy)]
 pub enum Operator {
     Add,
     And,
@@ -28,7 +28,7 @@ pub enum Operator {
 }
 
 // What a query's operator byte stands for.
-#[derive(Drop)]
+#[derive(Clone, Copy)]
 pub enum Coded {
     Known(Operator),
     Unknown,

@@ -202,7 +202,7 @@ fn ensure_single_timeseries(
 }
 
 // What the merges of both sides of a pair come to.
-#[derive(Drop)]
+#[derive(Clone, Copy)]
 pub(crate) enum Checked {
     Fine,
     Left { kept: usize, failed: usize },

@@ -6,7 +6,7 @@ ghost use Rattle.query.specs.aggregations.Requests.{aggregate_of, grouping_of, i
 use crate::list_ends;
 use crate::list_ends::ListEnd;
 
-#[derive(Drop)]
+#[derive(Clone, Copy)]
 pub enum Aggregate {
     Sum,
     Min,
@@ -15,20 +15,20 @@ pub enum Aggregate {
     Avg,
 }
 
-#[derive(Drop)]
+#[derive(Clone, Copy)]
 pub enum Grouping {
     By,
     Without,
 }
 
 // A request for an aggregate, by value. Its list is the request's bytes from 2 on.
-#[derive(Drop)]
+#[derive(Clone, Copy)]
 pub struct Aggregation {
     pub aggregate: Aggregate,
     pub grouping: Grouping,
 }
 
-#[derive(Drop)]
+#[derive(Clone, Copy)]
 pub enum AggregationRequest {
     Asked(Aggregation),
     BadAggregate,

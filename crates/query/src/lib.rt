@@ -18,7 +18,7 @@ use labels::Matching;
 use operator::{Coded, Operator};
 
 // The many side of a join is the left one for `GroupLeft`.
-#[derive(Drop)]
+#[derive(Clone, Copy)]
 pub enum Join {
     OneToOne,
     GroupLeft,
@@ -26,7 +26,7 @@ pub enum Join {
 }
 
 // A query by value. Its matching list is the bytes from 4 to `join_at`; its join list begins there, the allowance behind it.
-#[derive(Drop)]
+#[derive(Clone, Copy)]
 pub struct Query {
     pub operator: Operator,
     pub matching: Matching,
@@ -37,7 +37,7 @@ pub struct Query {
     pub allowance: usize,
 }
 
-#[derive(Drop)]
+#[derive(Clone, Copy)]
 pub enum Request {
     Asked(Query),
     BadOperator,

@@ -7,7 +7,7 @@ use fields::Place;
 use operator::Operator;
 
 // How far a list goes; one that is bad is refused with number 2.
-#[derive(Drop)]
+#[derive(Clone, Copy)]
 pub(crate) enum ListEnd {
     Until(usize),
     Bad,

@@ -3,7 +3,7 @@ ghost use Rattle.std.specs.Prelude.{◌≡◌};
 ghost use Rattle.query.specs.operator_table.Table.{table_row};
 
 // A row of the table. The spelling is the first `length` bytes; zeros stand behind it.
-#[derive(Drop)]
+#[derive(Clone, Copy)]
 pub(crate) struct OperatorRow {
     pub spelling: [u8; 7],
     pub length: usize,

@@ -6,7 +6,7 @@ ghost use Rattle.record_tags.specs.Cursors.{TagsOf, NextAt, every};
 use fields::Place;
 
 // Where a record's tags stand, and how many there are.
-#[derive(Drop)]
+#[derive(Clone, Copy)]
 pub struct Tags {
     pub at: usize,
     pub count: usize,
@@ -31,7 +31,7 @@ pub fn tags_of(rec: &[u8]) -> Tags
 }
 
 // A tag: its bytes are start..end, its key's are key..key_end, its value's key_end + 1..end; and how many tags are left behind it.
-#[derive(Drop)]
+#[derive(Clone, Copy)]
 pub enum Next {
     Tag {
         start: usize,

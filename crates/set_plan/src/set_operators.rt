@@ -11,7 +11,7 @@ use set_series::SetRule;
 
 // The rule on readings; whether left series without a match meet the first right one; whether right series that match
 // none are added.
-#[derive(Drop)]
+#[derive(Clone, Copy)]
 pub(crate) struct SetWork {
     pub rule: SetRule,
     pub falls: bool,

@@ -11,7 +11,7 @@ use crate::binaryop;
 use operator::Operator;
 
 // Where a left reading stays, by the right ones: where one is found; where none is; everywhere, its gaps filled.
-#[derive(Drop)]
+#[derive(Clone, Copy)]
 pub enum SetRule {
     WhereFound,
     WhereNone,
@@ -32,7 +32,7 @@ pub(crate) fn set_rule(op: Operator) -> SetRule
 }
 
 // A reading that a search finds, and the place of its series; MISSING at the place 0 where it finds none.
-#[derive(Drop)]
+#[derive(Clone, Copy)]
 pub(crate) struct Hit {
     pub place: usize,
     pub reading: u64,

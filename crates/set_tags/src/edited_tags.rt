@@ -7,7 +7,7 @@ use crate::tag_tests;
 use record_tags::Next;
 
 // Where an edit stands: `left` tags of the many side's record are at `many`, and `more` of the source's at `source`.
-#[derive(Drop)]
+#[derive(Clone, Copy)]
 pub(crate) struct Walk {
     pub many: usize,
     pub left: usize,
@@ -17,7 +17,7 @@ pub(crate) struct Walk {
 
 // The next tag of the edited record: its bytes are start..end of the source's record or of the many side's; and the
 // walk behind it.
-#[derive(Drop)]
+#[derive(Clone, Copy)]
 pub(crate) enum Edited {
     Tag {
         sourced: bool,
@@ -29,7 +29,7 @@ pub(crate) enum Edited {
 }
 
 // A step of a walk: it finds the next tag or the end, or passes a tag that the edited record lacks.
-#[derive(Drop)]
+#[derive(Clone, Copy)]
 enum Step {
     Found(Edited),
     Passed(Walk),

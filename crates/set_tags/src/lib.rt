@@ -46,7 +46,7 @@ fn edited_size(many: &[u8], source: &[u8], join: &[u8], skip: &[u8]) -> Size
 }
 
 // What writing the edited tags gives: how many they are, and the place behind them.
-#[derive(Drop)]
+#[derive(Clone, Copy)]
 struct PutTags {
     tags: usize,
     end: usize,

@@ -8,7 +8,7 @@ ghost use Rattle.set_tags.specs.naming.Namings.{naming_of, name_of};
 use operator::Operator;
 
 // Where an edited record's name comes from.
-#[derive(Drop)]
+#[derive(Clone, Copy)]
 pub enum Naming {
     Nobody,
     Many,

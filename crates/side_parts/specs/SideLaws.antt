@@ -1,6 +1,6 @@
 -- Laws of sides: records and rows by their number, and the positions of an encoded vector's records. Assumes nothing.
 use Rattle.std.specs.Prelude.{ℕ, zero, suc, ◌+◌, ◌-◌, ◌*◌, ◌≤◌, ◌<◌, ◌≡◌, refl, List, [], ◌∷◌, ◌++◌, length, get_or, take, drop}
-use Rattle.std.proofs.Common.{sym, ap, ◌∙◌, append_assoc, append-nil, add-one, zero-mul, suc-mul, mul-le-mul_right, arith, length-append, length-take, length-drop, take_at, drop_at, drop-drop, get_or-take}
+use Rattle.std.proofs.Common.{sym, ap, subst, ◌∙◌, append_assoc, append-nil, add-one, zero-mul, suc-mul, mul-le-mul_right, arith, length-append, length-take, length-drop, take_at, drop_at, drop-drop, get_or-take}
 use Rattle.std.proofs.lemmas.List.{length-map}
 use Rattle.std.proofs.Math.Seq.{take-nil}
 use Rattle.model.specs.Limits.{sizes_length}
@@ -99,9 +99,11 @@ unfolding labels_from ends label_bytes
 labels_from_lem before [] = refl
 labels_from_lem before (s ∷ ss) =
     let n : length (before ++ encode s.labels) ≡ length before + length (encode s.labels) = length-append before (encode s.labels) in
-    rw (cut_labels before s.labels (label_bytes ss))
-    (rw (← append_assoc before (encode s.labels) (label_bytes ss), ← n)
-    (ap (λ ls. s.labels ∷ ls) (labels_from_lem (before ++ encode s.labels) ss)))
+    let P : List ℕ → ℕ → Type 0 = λ a k. labels_from a k (ends k (labels_of_all ss)) ≡ labels_of_all ss in
+    let behind : P (before ++ (encode s.labels ++ label_bytes ss)) (length before + length (encode s.labels)) =
+        subst (λ a. P a (length before + length (encode s.labels))) (append_assoc before (encode s.labels) (label_bytes ss))
+        (subst (λ k. P ((before ++ encode s.labels) ++ label_bytes ss) k) n (labels_from_lem (before ++ encode s.labels) ss)) in
+    rw (cut_labels before s.labels (label_bytes ss)) (ap (λ ls. s.labels ∷ ls) behind)
 
 pub labels_starts : (ss : List Series) → labels_in (label_bytes ss) (starts 0 (labels_of_all ss)) ≡ labels_of_all ss
 labels_starts ss = labels_from_lem [] ss

@@ -5,7 +5,7 @@ ghost use Rattle.std.specs.Prelude.{◌≡◌, ◌+◌, ◌-◌, ◌*◌, ◌≤
 ghost use Rattle.side_parts.specs.Sides.{record_at, row_at, Positions};
 
 // The shape that both sides of a call and its answer have: so many points, and the grid of their times in milliseconds.
-#[derive(Drop)]
+#[derive(Clone, Copy)]
 pub struct Shape {
     pub points: usize,
     pub start: usize,

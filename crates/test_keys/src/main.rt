@@ -16,7 +16,7 @@ use operator::Operator;
 use timeseries::Taken;
 
 // What a key has in it.
-#[derive(Drop)]
+#[derive(Clone, Copy)]
 struct Choice {
     named: bool,
     matching: Matching,

@@ -40,7 +40,7 @@ fn off_grid(shape: Shape) -> bool
 }
 
 // What taking a vector comes to: its shape, or a fault and its place.
-#[derive(Drop)]
+#[derive(Clone, Copy)]
 pub enum Taken {
     Vector { series: usize, shape: Shape },
     Cut(usize),

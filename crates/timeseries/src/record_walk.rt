@@ -6,7 +6,7 @@ use crate::label_reader;
 use label_records::Record;
 
 // What the records of a label array come to.
-#[derive(Drop)]
+#[derive(Clone, Copy)]
 pub(crate) enum Walked {
     Whole,
     Cut(usize),

@@ -35,7 +35,7 @@ fn part_at(s: &[u8], at: usize) -> Place
 }
 
 // Where the query's part and the left side's end.
-#[derive(Drop)]
+#[derive(Clone, Copy)]
 pub(crate) enum Parts {
     Three { query: usize, left: usize },
     Unreadable,
