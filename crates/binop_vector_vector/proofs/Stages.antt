@@ -10,7 +10,7 @@ use native.Mathlib.Omega.{arith}
 use lib.ListN.{length, take, drop, length-append}
 use lib.Seq.{length-take-le, take_at}
 use lib.Dec.{eqb}
-use borrow.Author.Tests.{eq-eqb, ne_eqb, not_true, not_false}
+use borrow.Author.Tests.{eq-eqb, ne_eqb, not-true, not-false}
 use Rattle.model.specs.Limits.{sizes_length}
 use Rattle.model.specs.Query as Model
 use Rattle.model.specs.Vector.{Shape, Vector}
@@ -156,7 +156,7 @@ module _ (s x after : List ℕ) (n : ℕ) (shape : Shape) (l : Took 0 s x after 
         ran_both labels₀ out₀ Out.GridsDiffer
         (ran_differing q shape (take (length s - sizes_length) (drop sizes_length s)) (take (n + 1) after) x other
         (take (length s' - sizes_length) (drop sizes_length s')) (take (n' + 1) after') x' labels₀ out₀ h
-        (not_true (same_grid shape other) (sym tested ∙ e)))
+        (not-true (same_grid shape other) (sym tested ∙ e)))
 
     pub ran_alike : b ≡ false → (d o : List ℕ) (y : Outcome)
         → Ran (ran_taken q shape (take (length s - sizes_length) (drop sizes_length s)) (take (n + 1) after) x
@@ -167,7 +167,7 @@ module _ (s x after : List ℕ) (n : ℕ) (shape : Shape) (l : Took 0 s x after 
         ran_both d o y
         (ran_equal q shape (take (length s - sizes_length) (drop sizes_length s)) (take (n + 1) after) x other
         (take (length s' - sizes_length) (drop sizes_length s')) (take (n' + 1) after') x' labels₀ out₀ h
-        (not_false (same_grid shape other) (sym tested ∙ e)) d o y k)
+        (not-false (same_grid shape other) (sym tested ∙ e)) d o y k)
 
 -- on the points of the other side
 pub held_alike : (p points : ℕ) (array at rows : List ℕ) → points ≡ p → TakenSide points array at rows → TakenSide p array at rows

@@ -10,7 +10,7 @@ use mir.Val.{Fits}
 use lib.Dec.{leb, ltb, eqb}
 use lib.ListN.{length, take, drop, length-drop}
 use lib.Seq.{take_all, sets}
-use borrow.Author.Tests.{le-leb, lt-leb, le-ltb, lt-ltb, leb-true, leb-false, eq-eqb, ne_eqb, not_true, not_false}
+use borrow.Author.Tests.{le-leb, lt-leb, le-ltb, lt-ltb, leb-true, leb-false, eq-eqb, ne_eqb, not-true, not-false}
 use Rattle.model.specs.Limits.{sizes_length, max_start, max_step}
 use Rattle.model.specs.Vector.{Shape, Records, records, bad_record, records_in, series_of, with_readings}
 use Rattle.model.specs.Vector.{two_bytes_at, four_bytes_at, eight_bytes_at, shape_in, good_grid, take_vector}
@@ -112,7 +112,7 @@ module _ (s x before : List ℕ) where
         pub take_off_grid : b ≡ true → TakenInto s x before T.BadGrid before
         unfolding take_vector
         take_off_grid e =
-            let off = not_true (good_grid (shape_in s)) (tested_so ∙ e) in
+            let off = not-true (good_grid (shape_in s)) (tested_so ∙ e) in
             record {
               answer = rw (long_enough, few_enough, narrow_enough, off);
               positions = rw (long_enough, few_enough, narrow_enough, off);
@@ -120,7 +120,7 @@ module _ (s x before : List ℕ) where
 
         module _ (kept : b ≡ false) (size : ℕ) (hs : size ≡ two_bytes_at s 4) where
           on_grid : good_grid (shape_in s) ≡ true
-          on_grid = not_false (good_grid (shape_in s)) (tested_so ∙ kept)
+          on_grid = not-false (good_grid (shape_in s)) (tested_so ∙ kept)
 
           pub take-other : (length s - sizes_length ≡ size → ⊥) → TakenInto s x before (T.Cut 0) before
           unfolding take_vector

@@ -2,7 +2,7 @@
 use Prim.Native.Nat.{ℕ, zero, suc, ◌+◌, ◌*◌, ◌<◌}
 use Rattle.std.specs.Prelude.{◌≡◌, Bool, ◌||◌, leb, get_or, take, drop}
 use Rattle.std.proofs.Math.Path.{refl}
-use Rattle.std.proofs.Common.{sym, ap, ◌∙◌, eqb-true, length-append}
+use Rattle.std.proofs.Common.{sym, ap, subst, ◌∙◌, eqb-true, length-append}
 use Rattle.std.proofs.Math.Bool.{true, false, cond}
 use Rattle.std.proofs.Math.Option.{Option, none, some}
 use mathlib.Core.List.{List, [], ◌∷◌, ◌++◌, map, append_assoc}
@@ -32,11 +32,16 @@ RowsAt p rows i (b ∷ bs) = (row_at p rows i ≡ b.row) × RowsAt p rows (suc i
 rows_behind : (p i : ℕ) (front : List ℕ) (bs : List Series) → length front ≡ i * p → All (λ b. length b.row ≡ p) bs → RowsAt p (front ++ readings_of bs) i bs
 unfolding readings_of
 rows_behind p i front [] h w = tt
-rows_behind p i front (b ∷ bs) h w = (
-  rw (← h, drop-append_seam front (b.row ++ readings_of bs), ← w.0) (take-append_seam b.row (readings_of bs)),
-  rw (← (append_assoc front b.row (readings_of bs)))
-      (rows_behind p (suc i) (front ++ b.row) bs (length-append front b.row ∙ (omega (arith, h, w.0))) w.1),
-)
+rows_behind p i front (b ∷ bs) h w =
+    let n : length b.row ≡ p = w.0 in
+    let here : row_at p (front ++ (b.row ++ readings_of bs)) i ≡ b.row =
+        ap (λ k. take p (drop k (front ++ (b.row ++ readings_of bs)))) (sym h)
+        ∙ ap (take p) (drop-append_seam front (b.row ++ readings_of bs))
+        ∙ ap (λ k. take k (b.row ++ readings_of bs)) (sym n)
+        ∙ take-append_seam b.row (readings_of bs) in
+    (here,
+    subst (λ rows. RowsAt p rows (suc i) bs) (append_assoc front b.row (readings_of bs))
+    (rows_behind p (suc i) (front ++ b.row) bs (length-append front b.row ∙ (omega (arith, h, n))) w.1))
 
 -- so do those of a side
 pub rows_of : (p : ℕ) (bs : List Series) → All (λ b. length b.row ≡ p) bs → RowsAt p (readings_of bs) 0 bs
