@@ -4,7 +4,7 @@ ghost use Rattle.model.specs.Limits.{max_series};
 ghost use Rattle.model.specs.Record.{encode};
 ghost use Rattle.writing.specs.Written.{Put};
 ghost use Rattle.side_parts.specs.Sides.{record_at, Positions};
-ghost use Rattle.side_parts.specs.Lent.{Sides, sides, shape_of, lent, labelled, unlabelled, BothHeld, BothFormed, BothRowsHeld};
+ghost use Rattle.side_parts.specs.Lent.{sides, shape_of, lent, labelled, unlabelled, BothHeld, BothFormed, BothRowsHeld};
 ghost use Rattle.end_codes.specs.Codes.{side_first};
 ghost use Rattle.answers.specs.Tallies.{SizedRecord};
 ghost use Rattle.join_records.specs.Records.{LabelRoom};
@@ -49,13 +49,12 @@ pub(crate) fn plan(
     codes: &mut [usize],
     marks: &mut [usize],
 ) -> Planned
-    ghost s: { Sides }
-    requires rows_value { sides (shape_of shape) labels at keys rows ≡ s }
-    requires both_held { BothHeld s }
+    requires both_held { let s = sides (shape_of shape) labels at keys rows in BothHeld s }
     requires codes_len { length codes.old ≡ max_series }
     requires marks_len { length marks.old ≡ 4096 }
     requires clean { Clean 0 marks.old }
-    ensures { RulePlanned rule (lent lists.entry 0) (lent lists.entry 1) s codes.old codes.new
+    ensures { let s = sides (shape_of shape) labels.entry at.entry keys.entry rows.entry in
+        RulePlanned rule (lent lists.entry 0) (lent lists.entry 1) s codes.old codes.new
         marks.new result }
 {
     match rule {
@@ -87,11 +86,10 @@ pub(crate) fn record_size(
     at: [&[usize]; 2],
     code: usize,
 ) -> Size
-    ghost s: { Sides }
-    requires at_value { labelled labels at ≡ s }
-    requires both_formed { BothFormed s }
-    requires record_in { RecordIn rule s code }
-    ensures { SizedRecord (rule_labels rule (lent lists.entry 0) (lent lists.entry 1) s code) result }
+    requires both_formed { let s = labelled labels at in BothFormed s }
+    requires record_in { let s = labelled labels at in RecordIn rule s code }
+    ensures { let s = labelled labels.entry at.entry in
+        SizedRecord (rule_labels rule (lent lists.entry 0) (lent lists.entry 1) s code) result }
 {
     match rule {
         Rule::Pairs(q) => pair_records::pair_record_size(q, lists[0], labels[0], at[0], code),
@@ -118,12 +116,12 @@ pub(crate) fn put_record(
     out: &mut [u8],
     o: usize,
 ) -> usize
-    ghost s: { Sides }
-    requires at_value { labelled labels at ≡ s }
-    requires both_formed { BothFormed s }
-    requires record_in { RecordIn rule s code }
-    requires label_room { LabelRoom (rule_labels rule (lent lists 0) (lent lists 1) s code) o (length out.old) }
-    ensures { Put out.old o (encode (rule_labels rule (lent lists.entry 0) (lent lists.entry 1) s code))
+    requires both_formed { let s = labelled labels at in BothFormed s }
+    requires record_in { let s = labelled labels at in RecordIn rule s code }
+    requires label_room { let s = labelled labels at in
+        LabelRoom (rule_labels rule (lent lists 0) (lent lists 1) s code) o (length out.old) }
+    ensures { let s = labelled labels.entry at.entry in
+        Put out.old o (encode (rule_labels rule (lent lists.entry 0) (lent lists.entry 1) s code))
         out.new result }
 {
     match rule {
@@ -155,13 +153,11 @@ pub(crate) fn put_row(
     places: &mut [usize],
     out: &mut [u64],
 )
-    ghost s: { Sides }
-    requires rows_value { unlabelled (length out.old) keys rows ≡ s }
-    requires both_rows_held { BothRowsHeld s }
-    requires code_in { CodeIn rule s code }
+    requires both_rows_held { let s = unlabelled (length out.old) keys rows in BothRowsHeld s }
+    requires code_in { let s = unlabelled (length out.old) keys rows in CodeIn rule s code }
     requires in_bounds { 8 ≤ length marks.now }
     requires work_room { WorkRoom (length out.old) left_work.old right_work.old places.old }
-    ensures out_after { out.new ≡ rule_row rule s marks.now code }
+    ensures out_after { let s = unlabelled (length out.old) keys.entry rows.entry in out.new ≡ rule_row rule s marks.now code }
     ensures work_kept { WorkKept left_work.old right_work.old places.old left_work.new
         right_work.new places.new }
 {

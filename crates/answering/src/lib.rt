@@ -7,7 +7,7 @@ mod families; // a rule's plan, and the record and the row of a code, each by a 
 ghost use Rattle.std.specs.Prelude.{◌≡◌, false, ℕ, ◌*◌, ◌≤◌, length};
 ghost use Rattle.model.specs.Lists.{gather};
 ghost use Rattle.model.specs.Labels.{Labels};
-ghost use Rattle.side_parts.specs.Lent.{Sides, sides, shape_of, lent, labelled, unlabelled, BothHeld, BothFormed, BothRowsHeld};
+ghost use Rattle.side_parts.specs.Lent.{sides, shape_of, lent, labelled, unlabelled, BothHeld, BothFormed, BothRowsHeld};
 ghost use Rattle.answers.specs.Outcomes.{Ran, starting_with};
 ghost use Rattle.answers.specs.Tallies.{TallyOf, records_of, RecordsPut, some_wide};
 ghost use Rattle.answers.specs.Plans.{up_to};
@@ -27,11 +27,10 @@ fn tally(
     at: [&[usize]; 2],
     codes: &[usize],
 ) -> Tally
-    ghost s: { Sides }
-    requires at_value { labelled labels at ≡ s }
-    requires both_formed { BothFormed s }
-    requires records_in { RecordsIn rule s codes.now }
-    ensures { TallyOf (rule_labels rule (lent lists.entry 0) (lent lists.entry 1) s) codes.now result }
+    requires both_formed { let s = labelled labels at in BothFormed s }
+    requires records_in { let s = labelled labels at in RecordsIn rule s codes.now }
+    ensures { let s = labelled labels.entry at.entry in
+        TallyOf (rule_labels rule (lent lists.entry 0) (lent lists.entry 1) s) codes.now result }
 {
     let mut t = Tally {
         bytes: 0,
@@ -54,13 +53,14 @@ fn put_records(
     codes: &[usize],
     out: &mut [u8],
 ) -> usize
-    ghost s: { Sides }
-    requires at_value { labelled labels at ≡ s }
-    requires both_formed { BothFormed s }
-    requires records_in { RecordsIn rule s codes.now }
-    requires codes_value { some_wide (rule_labels rule (lent lists 0) (lent lists 1) s) codes.now ≡ false }
-    requires codes_in_bounds { length (records_of (rule_labels rule (lent lists 0) (lent lists 1) s) codes.now) ≤ length out.old }
-    ensures { RecordsPut (rule_labels rule (lent lists.entry 0) (lent lists.entry 1) s) codes.now out.old
+    requires both_formed { let s = labelled labels at in BothFormed s }
+    requires records_in { let s = labelled labels at in RecordsIn rule s codes.now }
+    requires codes_value { let s = labelled labels at in
+        some_wide (rule_labels rule (lent lists 0) (lent lists 1) s) codes.now ≡ false }
+    requires codes_in_bounds { let s = labelled labels at in
+        length (records_of (rule_labels rule (lent lists 0) (lent lists 1) s) codes.now) ≤ length out.old }
+    ensures { let s = labelled labels.entry at.entry in
+        RecordsPut (rule_labels rule (lent lists.entry 0) (lent lists.entry 1) s) codes.now out.old
         out.new result }
 {
     let mut o: usize = 0;
@@ -82,13 +82,12 @@ fn put_rows(
     marks: &[usize],
     out: &mut [u64],
 )
-    ghost s: { Sides }
-    requires rows_value { unlabelled p keys rows ≡ s }
-    requires both_rows_held { BothRowsHeld s }
-    requires codes_in { CodesIn rule s codes.now }
+    requires both_rows_held { let s = unlabelled p keys rows in BothRowsHeld s }
+    requires codes_in { let s = unlabelled p keys rows in CodesIn rule s codes.now }
     requires codes_in_bounds { length codes.now * 8 ≤ length marks.now }
     requires p_in_bounds { length codes.now * p ≤ length out.old }
-    ensures { out.new ≡ starting_with
+    ensures { let s = unlabelled p keys.entry rows.entry in
+        out.new ≡ starting_with
         (gather (plan_row rule s codes.now marks.now) (up_to (length codes.now)))
         out.old }
 {
@@ -128,10 +127,9 @@ pub fn run(
     out_labels: &mut [u8],
     out: &mut [u64],
 ) -> Outcome
-    ghost s: { Sides }
-    requires rows_value { sides (shape_of shape) labels at keys rows ≡ s }
-    requires both_held { BothHeld s }
-    ensures { Ran
+    requires { let s = sides (shape_of shape) labels at keys rows in BothHeld s }
+    ensures { let s = sides (shape_of shape) labels.entry at.entry keys.entry rows.entry in
+        Ran
         (rule_outcome rule (lent lists.entry 0) (lent lists.entry 1) (length out_labels.old)
         (length out.old) s)
         out_labels.old out.old out_labels.new out.new result }

@@ -5,7 +5,7 @@ ghost use Rattle.labels.specs.Names.{names_of};
 ghost use Rattle.labels.specs.Matchings.{matching_of};
 ghost use Rattle.query.specs.Queries.{query_of, join_of, ListsWithin};
 ghost use Rattle.semantics.specs.Binop.{skip_list};
-ghost use Rattle.side_parts.specs.Lent.{Sides, lent, shape_of};
+ghost use Rattle.side_parts.specs.Lent.{lent, shape_of};
 ghost use Rattle.answers.specs.Outcomes.{Ran};
 ghost use Rattle.keyed_sides.specs.Keyed.{drops_missing, SidesKeyed};
 ghost use Rattle.binop_vector_vector.specs.dispatch.Runs.{Asked, sides_with, ran_sides};
@@ -111,11 +111,11 @@ pub(crate) fn run_keyed<'a>(
     out_labels: &mut [u8],
     out: &mut [u64],
 ) -> Outcome
-    ghost s: { Sides }
-    requires rows_value { sides_with (shape_of shape) labels at left_keys.now right_keys.now rows ≡ s }
     requires asked { Asked query.now q }
-    requires sides_keyed { SidesKeyed (query_of query.now q) (drops_missing (kind_of q.operator)) s }
-    ensures { Ran (ran_sides (query_of query.now q) s (length out_labels.old) (length out.old))
+    requires sides_keyed { let s = sides_with (shape_of shape) labels at left_keys.now right_keys.now rows in
+        SidesKeyed (query_of query.now q) (drops_missing (kind_of q.operator)) s }
+    ensures { let s = sides_with (shape_of shape) labels.entry at.entry left_keys.now right_keys.now rows.entry in
+        Ran (ran_sides (query_of query.now q) s (length out_labels.old) (length out.old))
         out_labels.old out.old out_labels.new out.new result }
 {
     let lists = lists_of(query, q);

@@ -9,7 +9,7 @@ ghost use Rattle.labels.specs.Names.{names_of};
 ghost use Rattle.labels.specs.Matchings.{matching_of};
 ghost use Rattle.query.specs.Queries.{query_of, request_number};
 ghost use Rattle.semantics.specs.Call.{call, same_grid};
-ghost use Rattle.side_parts.specs.Lent.{Sides, lent, BothHeld, shape_of};
+ghost use Rattle.side_parts.specs.Lent.{lent, BothHeld, shape_of};
 ghost use Rattle.answers.specs.Outcomes.{Ran, told, refusal};
 ghost use Rattle.keyed_sides.specs.TakenSides.{TakenSide};
 ghost use Rattle.keyed_sides.specs.Keyed.{drops_missing, KeysKept};
@@ -57,10 +57,10 @@ fn number_kept(
     left_keys: &mut [usize],
     right_keys: &mut [usize],
 )
-    ghost s: { Sides }
-    requires rows_value { sides_with (shape_of shape) labels at left_keys.old right_keys.old rows ≡ s }
-    requires both_held { BothHeld s }
-    ensures { KeysKept (matching_of matching) (names_of names.now) (drops_missing (kind_of op)) s left_keys.new
+    requires { let s = sides_with (shape_of shape) labels at left_keys.old right_keys.old rows in
+        BothHeld s }
+    ensures { let s = sides_with (shape_of shape) labels.entry at.entry left_keys.old right_keys.old rows.entry in
+        KeysKept (matching_of matching) (names_of names.now) (drops_missing (kind_of op)) s left_keys.new
         right_keys.new }
 {
     keyed_sides::number_keys(matching, names, labels, at, left_keys, right_keys);

@@ -7,7 +7,7 @@ mod join_leads; // the merges behind the leaders tried; the rows that they give,
 mod place_plans; // one many-side place: its leaders marked, its rows planned
 
 ghost use Rattle.std.specs.Prelude.{◌≡◌, length};
-ghost use Rattle.side_parts.specs.Lent.{Sides, sides, shape_of, BothHeld};
+ghost use Rattle.side_parts.specs.Lent.{sides, shape_of, BothHeld};
 ghost use Rattle.answers.specs.Plans.{PlannedAs};
 ghost use Rattle.join_series.specs.Works.{many_side, work_by};
 ghost use Rattle.join_plan.specs.Plans.{first_clash, join_codes, early_codes, noted_codes, MarksPlanned, one_twice};
@@ -42,13 +42,13 @@ pub fn plan_join(
     codes: &mut [usize],
     marks: &mut [usize],
 ) -> Planned
-    ghost s: { Sides }
-    requires rows_value { sides (shape_of shape) labels at keys rows ≡ s }
-    requires both_held { BothHeld s }
+    requires both_held { let s = sides (shape_of shape) labels at keys rows in BothHeld s }
     requires clean { Clean 0 marks.old }
-    ensures planned_as { PlannedAs (first_clash (work_by w lists.entry) (many_side w) s) (join_codes (work_by w lists.entry) s)
+    ensures planned_as { let s = sides (shape_of shape) labels.entry at.entry keys.entry rows.entry in
+        PlannedAs (first_clash (work_by w lists.entry) (many_side w) s) (join_codes (work_by w lists.entry) s)
         (early_codes (work_by w lists.entry) (many_side w) s) codes.old codes.new result }
-    ensures marks_planned { MarksPlanned (work_by w lists.entry) s (length (noted_codes (work_by w lists.entry) (many_side w) s))
+    ensures marks_planned { let s = sides (shape_of shape) labels.entry at.entry keys.entry rows.entry in
+        MarksPlanned (work_by w lists.entry) s (length (noted_codes (work_by w lists.entry) (many_side w) s))
         codes.new marks.old marks.new }
 {
     let many = keys[0];

@@ -5,7 +5,7 @@ ghost use Rattle.std.specs.Prelude.{◌≡◌, length};
 ghost use Rattle.model.specs.Record.{encode};
 ghost use Rattle.labels.specs.Names.{names_of};
 ghost use Rattle.writing.specs.Written.{Put};
-ghost use Rattle.side_parts.specs.Lent.{Sides, lent, labelled};
+ghost use Rattle.side_parts.specs.Lent.{lent, labelled};
 ghost use Rattle.answers.specs.Tallies.{SizedRecord};
 ghost use Rattle.join_records.specs.Records.{coded_join_labels, JoinRecord, LabelRoom};
 
@@ -20,10 +20,9 @@ pub fn join_record_size(
     at: [&[usize]; 2],
     code: usize,
 ) -> Size
-    ghost s: { Sides }
-    requires at_value { labelled labels at ≡ s }
-    requires join_record { JoinRecord s code }
-    ensures { SizedRecord
+    requires { let s = labelled labels at in JoinRecord s code }
+    ensures { let s = labelled labels.entry at.entry in
+        SizedRecord
         (coded_join_labels naming (names_of (lent lists.entry 0)) (names_of (lent lists.entry 1)) s code) result }
 {
     let rec = side_parts::record(labels[0], at[0], row_codes::many_place(code));
@@ -41,11 +40,11 @@ pub fn put_join_record(
     out: &mut [u8],
     o: usize,
 ) -> usize
-    ghost s: { Sides }
-    requires at_value { labelled labels at ≡ s }
-    requires join_record { JoinRecord s code }
-    requires label_room { LabelRoom (coded_join_labels naming (names_of (lent lists 0)) (names_of (lent lists 1)) s code) o (length out.old) }
-    ensures { Put out.old o
+    requires join_record { let s = labelled labels at in JoinRecord s code }
+    requires label_room { let s = labelled labels at in
+        LabelRoom (coded_join_labels naming (names_of (lent lists 0)) (names_of (lent lists 1)) s code) o (length out.old) }
+    ensures { let s = labelled labels.entry at.entry in
+        Put out.old o
         (encode (coded_join_labels naming (names_of (lent lists.entry 0)) (names_of (lent lists.entry 1)) s code))
         out.new result }
 {

@@ -1,7 +1,7 @@
 // The answer row of a row code: its one-side row, with the rows over it that are marked behind it, and the operator on
 // its many-side row and that.
 ghost use Rattle.std.specs.Prelude.{◌≡◌, ◌≤◌, length};
-ghost use Rattle.side_parts.specs.Lent.{Sides, unlabelled, BothRowsHeld};
+ghost use Rattle.side_parts.specs.Lent.{unlabelled, BothRowsHeld};
 ghost use Rattle.join_series.specs.Works.{worked_row};
 ghost use Rattle.join_series.specs.join_rows.Rows.{JoinCode, coded_join_row, work_after};
 
@@ -32,14 +32,13 @@ pub fn put_join_row(
     work: &mut [u64],
     out: &mut [u64],
 )
-    ghost s: { Sides }
-    requires rows_value { unlabelled (length out.old) keys rows ≡ s }
-    requires both_rows_held { BothRowsHeld s }
-    requires join_code { JoinCode s code }
+    requires both_rows_held { let s = unlabelled (length out.old) keys rows in BothRowsHeld s }
+    requires join_code { let s = unlabelled (length out.old) keys rows in JoinCode s code }
     requires in_bounds { 8 ≤ length marks.now }
     requires out_in_bounds { length out.old ≤ length work.old }
-    ensures out_after { out.new ≡ coded_join_row w s marks.now code }
-    ensures work_after { work.new ≡ work_after s marks.now code work.old }
+    ensures out_after { let s = unlabelled (length out.old) keys.entry rows.entry in out.new ≡ coded_join_row w s marks.now code }
+    ensures work_after { let s = unlabelled (length out.old) keys.entry rows.entry in
+        work.new ≡ work_after s marks.now code work.old }
 {
     let p = out.len();
     let o = row_codes::one_place(code);

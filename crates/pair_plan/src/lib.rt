@@ -21,10 +21,9 @@ pub fn plan_pairs(
     rows: [&[u64]; 2],
     codes: &mut [usize],
 ) -> Planned
-    ghost s: { Sides }
-    requires rows_value { unlabelled p keys rows ≡ s }
-    requires both_rows_held { BothRowsHeld s }
-    ensures { PlannedAs (pairs_clash allowance s 0 s.left.keys) (pair_codes s) [] codes.old codes.new result }
+    requires { let s = unlabelled p keys rows in BothRowsHeld s }
+    ensures { let s = unlabelled p keys.entry rows.entry in
+        PlannedAs (pairs_clash allowance s 0 s.left.keys) (pair_codes s) [] codes.old codes.new result }
 {
     let mut ends = [0usize; 512];
     let mut work = [0u64; 1024];

@@ -219,14 +219,12 @@ fn check_pair(
     c: usize,
     work: &mut [u64],
 ) -> Checked
-    ghost s: { Sides }
-    requires rows_value { unlabelled p keys rows ≡ s }
-    requires both_rows_held { BothRowsHeld s }
-    requires code_of { CodeOf s.left.keys s.right.keys k c }
-    requires k_in_bounds { first_of s.left.keys k < length s.left.keys }
-    requires k_in_bounds_2 { first_of s.right.keys k < length s.right.keys }
+    requires both_rows_held { let s = unlabelled p keys rows in BothRowsHeld s }
+    requires code_of { let s = unlabelled p keys rows in CodeOf s.left.keys s.right.keys k c }
+    requires k_in_bounds { let s = unlabelled p keys rows in first_of s.left.keys k < length s.left.keys }
+    requires k_in_bounds_2 { let s = unlabelled p keys rows in first_of s.right.keys k < length s.right.keys }
     requires p_in_bounds { p ≤ length work.old }
-    ensures result_value { clash_in result ≡ pair_clash allowance s k }
+    ensures result_value { let s = unlabelled p keys.entry rows.entry in clash_in result ≡ pair_clash allowance s k }
     ensures work_len_unchanged { length work.new ≡ length work.old }
 {
     let last = end_codes::left_last(c);
@@ -262,11 +260,9 @@ fn check_pair(
 
 // Whether a code has exactly two series on each side, and they merge: both sides are tried at once.
 fn two_merge(allowance: usize, p: usize, keys: [&[usize]; 2], rows: [&[u64]; 2], c: usize) -> bool
-    ghost s: { Sides }
-    requires rows_value { unlabelled p keys rows ≡ s }
-    requires both_rows_held { BothRowsHeld s }
-    requires pair_code { PairCode s c }
-    ensures { result ≡ twos_merge allowance s c }
+    requires both_rows_held { let s = unlabelled p keys rows in BothRowsHeld s }
+    requires pair_code { let s = unlabelled p keys rows in PairCode s c }
+    ensures { let s = unlabelled p keys.entry rows.entry in result ≡ twos_merge allowance s c }
 {
     if key_places::both_two(keys, c) {
         return mergeable::both_merge(
@@ -290,14 +286,12 @@ fn try_pair(
     c: usize,
     work: &mut [u64],
 ) -> Checked
-    ghost s: { Sides }
-    requires rows_value { unlabelled p keys rows ≡ s }
-    requires both_rows_held { BothRowsHeld s }
-    requires code_of { CodeOf s.left.keys s.right.keys k c }
-    requires k_in_bounds { first_of s.left.keys k < length s.left.keys }
-    requires k_in_bounds_2 { first_of s.right.keys k < length s.right.keys }
+    requires both_rows_held { let s = unlabelled p keys rows in BothRowsHeld s }
+    requires code_of { let s = unlabelled p keys rows in CodeOf s.left.keys s.right.keys k c }
+    requires k_in_bounds { let s = unlabelled p keys rows in first_of s.left.keys k < length s.left.keys }
+    requires k_in_bounds_2 { let s = unlabelled p keys rows in first_of s.right.keys k < length s.right.keys }
     requires p_in_bounds { p ≤ length work.old }
-    ensures result_value { clash_in result ≡ pair_clash allowance s k }
+    ensures result_value { let s = unlabelled p keys.entry rows.entry in clash_in result ≡ pair_clash allowance s k }
     ensures work_len_unchanged { length work.new ≡ length work.old }
 {
     if two_merge(allowance, p, keys, rows, c) {
@@ -316,13 +310,12 @@ fn check_at(
     i: usize,
     work: &mut [u64],
 ) -> Checked
-    ghost s: { Sides }
-    requires rows_value { unlabelled p keys rows ≡ s }
-    requires both_rows_held { BothRowsHeld s }
-    requires pair_ends { PairEnds s.left.keys s.right.keys ends.now }
-    requires i_in_bounds { i < length s.left.keys }
+    requires both_rows_held { let s = unlabelled p keys rows in BothRowsHeld s }
+    requires pair_ends { let s = unlabelled p keys rows in PairEnds s.left.keys s.right.keys ends.now }
+    requires i_in_bounds { let s = unlabelled p keys rows in i < length s.left.keys }
     requires p_in_bounds { p ≤ length work.old }
-    ensures result_value { clash_in result ≡ clash_at allowance s i (get_or s.left.keys i 0) }
+    ensures result_value { let s = unlabelled p keys.entry rows.entry in
+        clash_in result ≡ clash_at allowance s i (get_or s.left.keys i 0) }
     ensures work_len_unchanged { length work.new ≡ length work.old }
 {
     let lkeys = keys[0];
@@ -342,12 +335,10 @@ pub(crate) fn check_pairs(
     ends: &[usize],
     work: &mut [u64],
 ) -> Checked
-    ghost s: { Sides }
-    requires rows_value { unlabelled p keys rows ≡ s }
-    requires both_rows_held { BothRowsHeld s }
-    requires pair_ends { PairEnds s.left.keys s.right.keys ends.now }
+    requires both_rows_held { let s = unlabelled p keys rows in BothRowsHeld s }
+    requires pair_ends { let s = unlabelled p keys rows in PairEnds s.left.keys s.right.keys ends.now }
     requires p_in_bounds { p ≤ length work.old }
-    ensures result_value { clash_in result ≡ pairs_clash allowance s 0 s.left.keys }
+    ensures result_value { let s = unlabelled p keys.entry rows.entry in clash_in result ≡ pairs_clash allowance s 0 s.left.keys }
     ensures work_len_unchanged { length work.new ≡ length work.old }
 {
     let lkeys = keys[0];

@@ -44,15 +44,15 @@ fn put_side_by_side(
     right_work: &mut [u64],
     out: &mut [u64],
 )
-    ghost s: { Sides }
-    requires rows_value { unlabelled (length out.old) keys rows ≡ s }
-    requires both_rows_held { BothRowsHeld s }
-    requires pair_code { PairCode s code }
+    requires both_rows_held { let s = unlabelled (length out.old) keys rows in BothRowsHeld s }
+    requires pair_code { let s = unlabelled (length out.old) keys rows in PairCode s code }
     requires out_in_bounds { length out.old ≤ length left_work.old }
     requires out_in_bounds_2 { length out.old ≤ length right_work.old }
-    ensures out_after { out.new ≡ coded_pair_row op as_bool s code }
-    ensures left_work_after { left_work.new ≡ left_work_after s code left_work.old }
-    ensures right_work_after { right_work.new ≡ right_work_after s code right_work.old }
+    ensures out_after { let s = unlabelled (length out.old) keys.entry rows.entry in out.new ≡ coded_pair_row op as_bool s code }
+    ensures left_work_after { let s = unlabelled (length out.old) keys.entry rows.entry in
+        left_work.new ≡ left_work_after s code left_work.old }
+    ensures right_work_after { let s = unlabelled (length out.old) keys.entry rows.entry in
+        right_work.new ≡ right_work_after s code right_work.old }
 {
     let p = out.len();
     let first = end_codes::left_first(code);
@@ -77,16 +77,17 @@ fn put_two(
     right_work: &mut [u64],
     out: &mut [u64],
 )
-    ghost s: { Sides }
-    requires rows_value { unlabelled (length out.old) keys rows ≡ s }
-    requires both_rows_held { BothRowsHeld s }
-    requires pair_code { PairCode s code }
+    requires both_rows_held { let s = unlabelled (length out.old) keys rows in BothRowsHeld s }
+    requires pair_code { let s = unlabelled (length out.old) keys rows in PairCode s code }
     requires out_in_bounds { length out.old ≤ length left_work.old }
     requires out_in_bounds_2 { length out.old ≤ length right_work.old }
-    requires code_value { both_two s.left.keys s.right.keys code ≡ true }
-    ensures out_after { out.new ≡ coded_pair_row op as_bool s code }
-    ensures left_work_after { left_work.new ≡ left_work_after s code left_work.old }
-    ensures right_work_after { right_work.new ≡ right_work_after s code right_work.old }
+    requires code_value { let s = unlabelled (length out.old) keys rows in
+        both_two s.left.keys s.right.keys code ≡ true }
+    ensures out_after { let s = unlabelled (length out.old) keys.entry rows.entry in out.new ≡ coded_pair_row op as_bool s code }
+    ensures left_work_after { let s = unlabelled (length out.old) keys.entry rows.entry in
+        left_work.new ≡ left_work_after s code left_work.old }
+    ensures right_work_after { let s = unlabelled (length out.old) keys.entry rows.entry in
+        right_work.new ≡ right_work_after s code right_work.old }
 {
     let p = out.len();
     pair_parts::put_parts(
@@ -113,15 +114,15 @@ pub fn put_pair_row(
     right_work: &mut [u64],
     out: &mut [u64],
 )
-    ghost s: { Sides }
-    requires rows_value { unlabelled (length out.old) keys rows ≡ s }
-    requires both_rows_held { BothRowsHeld s }
-    requires pair_code { PairCode s code }
+    requires both_rows_held { let s = unlabelled (length out.old) keys rows in BothRowsHeld s }
+    requires pair_code { let s = unlabelled (length out.old) keys rows in PairCode s code }
     requires out_in_bounds { length out.old ≤ length left_work.old }
     requires out_in_bounds_2 { length out.old ≤ length right_work.old }
-    ensures out_after { out.new ≡ coded_pair_row op as_bool s code }
-    ensures left_work_after { left_work.new ≡ left_work_after s code left_work.old }
-    ensures right_work_after { right_work.new ≡ right_work_after s code right_work.old }
+    ensures out_after { let s = unlabelled (length out.old) keys.entry rows.entry in out.new ≡ coded_pair_row op as_bool s code }
+    ensures left_work_after { let s = unlabelled (length out.old) keys.entry rows.entry in
+        left_work.new ≡ left_work_after s code left_work.old }
+    ensures right_work_after { let s = unlabelled (length out.old) keys.entry rows.entry in
+        right_work.new ≡ right_work_after s code right_work.old }
 {
     if key_places::both_two(keys, code) {
         put_two(op, as_bool, keys, rows, code, left_work, right_work, out);

@@ -8,7 +8,7 @@ mod set_listing; // the codes of the answer's rows, listed
 ghost use Rattle.std.specs.Prelude.{◌≡◌};
 ghost use Rattle.operator.specs.Kinds.{kind_of};
 ghost use Rattle.plan.specs.Sets.{work_for};
-ghost use Rattle.side_parts.specs.Lent.{Sides, shape_of, sides, BothHeld};
+ghost use Rattle.side_parts.specs.Lent.{shape_of, sides, BothHeld};
 ghost use Rattle.index_lists.specs.Places.{NotedAll};
 ghost use Rattle.set_plan.specs.Codes.{set_codes};
 
@@ -25,10 +25,9 @@ pub fn plan_set(
     rows: [&[u64]; 2],
     codes: &mut [usize],
 ) -> usize
-    ghost s: { Sides }
-    requires rows_value { sides (shape_of shape) labels at keys rows ≡ s }
-    requires both_held { BothHeld s }
-    ensures { NotedAll (set_codes (work_for (kind_of op) s) s) 0 codes.old codes.new result }
+    requires { let s = sides (shape_of shape) labels at keys rows in BothHeld s }
+    ensures { let s = sides (shape_of shape) labels.entry at.entry keys.entry rows.entry in
+        NotedAll (set_codes (work_for (kind_of op) s) s) 0 codes.old codes.new result }
 {
     let left_keys = keys[0];
     let scalar = set_operators::is_scalar(labels[1], at[1]);

@@ -1,7 +1,7 @@
 // The codes of a set operator's answer rows, listed.
 ghost use Rattle.std.specs.Prelude.{◌≡◌, ◌≤◌, length};
 ghost use Rattle.model.specs.Limits.{max_series};
-ghost use Rattle.side_parts.specs.Lent.{Sides, unlabelled};
+ghost use Rattle.side_parts.specs.Lent.{unlabelled};
 ghost use Rattle.key_ends.specs.Ends.{SideEnds};
 ghost use Rattle.index_lists.specs.Places.{NotedAll};
 ghost use Rattle.set_plan.specs.Codes.{set_codes};
@@ -21,12 +21,11 @@ fn list_left(
     places: &mut [usize],
     list: &mut [usize],
 ) -> usize
-    ghost s: { Sides }
-    requires rows_value { unlabelled p keys rows ≡ s }
-    requires set_held { SetHeld w.falls s }
-    requires side_ends { SideEnds s.right.keys s.left.keys ends.now }
-    requires keys_in_bounds { length s.right.keys ≤ length places.old }
-    ensures { LeftsListed (meant_work w) s places.old places.new list.old list.new result }
+    requires set_held { let s = unlabelled p keys rows in SetHeld w.falls s }
+    requires side_ends { let s = unlabelled p keys rows in SideEnds s.right.keys s.left.keys ends.now }
+    requires keys_in_bounds { let s = unlabelled p keys rows in length s.right.keys ≤ length places.old }
+    ensures { let s = unlabelled p keys.entry rows.entry in
+        LeftsListed (meant_work w) s places.old places.new list.old list.new result }
 {
     let left_keys = keys[0];
     let right_keys = keys[1];
@@ -76,10 +75,8 @@ pub(crate) fn list_rows(
     rows: [&[u64]; 2],
     list: &mut [usize],
 ) -> usize
-    ghost s: { Sides }
-    requires rows_value { unlabelled p keys rows ≡ s }
-    requires set_held { SetHeld w.falls s }
-    ensures { NotedAll (set_codes (meant_work w) s) 0 list.old list.new result }
+    requires { let s = unlabelled p keys rows in SetHeld w.falls s }
+    ensures { let s = unlabelled p keys.entry rows.entry in NotedAll (set_codes (meant_work w) s) 0 list.old list.new result }
 {
     let mut ends = [0usize; 512];
     let mut places = [0usize; 512];

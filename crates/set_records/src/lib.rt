@@ -6,7 +6,7 @@ ghost use Rattle.model.specs.Limits.{max_label_bytes};
 ghost use Rattle.model.specs.Record.{encode};
 ghost use Rattle.record_tags.specs.Lenient.{labels_of};
 ghost use Rattle.writing.specs.Written.{Put};
-ghost use Rattle.side_parts.specs.Lent.{Sides, labelled, BothFormed, record_count};
+ghost use Rattle.side_parts.specs.Lent.{labelled, BothFormed, record_count};
 ghost use Rattle.answers.specs.Tallies.{SizedRecord};
 ghost use Rattle.set_records.specs.Records.{RecordCode, coded_set_labels, RowRecord};
 
@@ -15,11 +15,9 @@ use kept_labels::Size;
 
 // The record of a row: of a left place, or of a right one counted behind the left ones.
 fn row_record<'a>(labels: [&'a [u8]; 2], at: [&[usize]; 2], x: usize) -> &'a [u8]
-    ghost s: { Sides }
-    requires at_value { labelled labels at ≡ s }
-    requires both_formed { BothFormed s }
-    requires x_bound { x < record_count s.left + record_count s.right }
-    ensures { RowRecord s x result.now }
+    requires both_formed { let s = labelled labels at in BothFormed s }
+    requires x_bound { let s = labelled labels at in x < record_count s.left + record_count s.right }
+    ensures { let s = labelled labels.entry at.entry in RowRecord s x result.now }
 {
     let left_at = at[0];
     let n = left_at.len() - 1;
@@ -46,11 +44,9 @@ fn record_size(rec: &[u8]) -> Size
 
 // The size of the record of a code.
 pub fn set_record_size(labels: [&[u8]; 2], at: [&[usize]; 2], code: usize) -> Size
-    ghost s: { Sides }
-    requires at_value { labelled labels at ≡ s }
-    requires both_formed { BothFormed s }
-    requires record_code { RecordCode s code }
-    ensures { SizedRecord (coded_set_labels s code) result }
+    requires both_formed { let s = labelled labels at in BothFormed s }
+    requires record_code { let s = labelled labels at in RecordCode s code }
+    ensures { let s = labelled labels.entry at.entry in SizedRecord (coded_set_labels s code) result }
 {
     record_size(row_record(labels, at, end_codes::left_last(code)))
 }
@@ -63,12 +59,11 @@ pub fn put_set_record(
     out: &mut [u8],
     o: usize,
 ) -> usize
-    ghost s: { Sides }
-    requires at_value { labelled labels at ≡ s }
-    requires both_formed { BothFormed s }
-    requires record_code { RecordCode s code }
-    requires code_in_bounds { o + length (encode (coded_set_labels s code)) ≤ length out.old }
-    ensures { Put out.old o (encode (coded_set_labels s code)) out.new result }
+    requires both_formed { let s = labelled labels at in BothFormed s }
+    requires record_code { let s = labelled labels at in RecordCode s code }
+    requires code_in_bounds { let s = labelled labels at in
+        o + length (encode (coded_set_labels s code)) ≤ length out.old }
+    ensures { let s = labelled labels.entry at.entry in Put out.old o (encode (coded_set_labels s code)) out.new result }
 {
     writing::put_bytes(out, o, row_record(labels, at, end_codes::left_last(code)))
 }

@@ -9,7 +9,7 @@ mod left_rows; // the row of a left series that meets several right ones, one, o
 ghost use Rattle.std.specs.Prelude.{◌≡◌, ◌≤◌, length};
 ghost use Rattle.operator.specs.Kinds.{kind_of};
 ghost use Rattle.plan.specs.Sets.{rule_by};
-ghost use Rattle.side_parts.specs.Lent.{Sides, unlabelled, BothRowsHeld};
+ghost use Rattle.side_parts.specs.Lent.{unlabelled, BothRowsHeld};
 ghost use Rattle.set_series.specs.Series.{SetCode, SetRowPut};
 
 use operator::Operator;
@@ -24,12 +24,12 @@ pub fn put_set_row(
     places: &mut [usize],
     out: &mut [u64],
 )
-    ghost s: { Sides }
-    requires rows_value { unlabelled (length out.old) keys rows ≡ s }
-    requires both_rows_held { BothRowsHeld s }
-    requires set_code { SetCode s code }
-    requires keys_in_bounds { length s.right.keys ≤ length places.old }
-    ensures { SetRowPut (rule_by (kind_of op)) s code places.old places.new out.new }
+    requires both_rows_held { let s = unlabelled (length out.old) keys rows in BothRowsHeld s }
+    requires set_code { let s = unlabelled (length out.old) keys rows in SetCode s code }
+    requires keys_in_bounds { let s = unlabelled (length out.old) keys rows in
+        length s.right.keys ≤ length places.old }
+    ensures { let s = unlabelled (length out.old) keys.entry rows.entry in
+        SetRowPut (rule_by (kind_of op)) s code places.old places.new out.new }
 {
     let left_keys = keys[0];
     let n = left_keys.len();

@@ -101,8 +101,8 @@ labels_from_lem before (s ∷ ss) =
     let n : length (before ++ encode s.labels) ≡ length before + length (encode s.labels) = length-append before (encode s.labels) in
     let P : List ℕ → ℕ → Type 0 = λ a k. labels_from a k (ends k (labels_of_all ss)) ≡ labels_of_all ss in
     let behind : P (before ++ (encode s.labels ++ label_bytes ss)) (length before + length (encode s.labels)) =
-        subst (λ a. P a (length before + length (encode s.labels))) (append_assoc before (encode s.labels) (label_bytes ss))
-        (subst (λ k. P ((before ++ encode s.labels) ++ label_bytes ss) k) n (labels_from_lem (before ++ encode s.labels) ss)) in
+    subst (λ a. P a (length before + length (encode s.labels))) (append_assoc before (encode s.labels) (label_bytes ss))
+    (subst (λ k. P ((before ++ encode s.labels) ++ label_bytes ss) k) n (labels_from_lem (before ++ encode s.labels) ss)) in
     rw (cut_labels before s.labels (label_bytes ss)) (ap (λ ls. s.labels ∷ ls) behind)
 
 pub labels_starts : (ss : List Series) → labels_in (label_bytes ss) (starts 0 (labels_of_all ss)) ≡ labels_of_all ss

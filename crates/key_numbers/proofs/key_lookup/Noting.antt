@@ -10,7 +10,7 @@ use mir.Val.{Fits}
 use lib.Dec.{eqb, ltb}
 use lib.ListN.{length, get_or, take, set, length-set, length-append, get_or-append}
 use lib.Seq.{take-suc, take_all, length-take-le, get_or-append-add, get_or-set_same, get_or-set_other}
-use denote.Ref.{MutBor}
+use Rattle.std.specs.Borrow.{Bor}
 use borrow.Author.Tests.{eqb-true, eqb-false, lt-ltb, le-ltb, ltb-true, ltb-false}
 use Rattle.model.specs.Lists.{cases}
 use Rattle.model.specs.Labels.{Labels}
@@ -107,7 +107,7 @@ module _ (hashes : List ℕ) where
 
 -- the records of two sides, with their hashes and a table of them
 
-module _ (named : Bool) (m : Matching) (list : List ℕ) (arrays at : List (MutBor (List ℕ))) (left_hashes hashes : List ℕ)
+module _ (named : Bool) (m : Matching) (list : List ℕ) (arrays at : List (Bor (List ℕ))) (left_hashes hashes : List ℕ)
     (s : BothHashed named m (names_of list) arrays at left_hashes hashes) where
   abbrev lefts : List Labels
   lefts = labels_in (lent arrays 0) (lent at 0)

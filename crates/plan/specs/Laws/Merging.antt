@@ -35,13 +35,14 @@ rows_behind p i front [] h w = tt
 rows_behind p i front (b ∷ bs) h w =
     let n : length b.row ≡ p = w.0 in
     let here : row_at p (front ++ (b.row ++ readings_of bs)) i ≡ b.row =
-        ap (λ k. take p (drop k (front ++ (b.row ++ readings_of bs)))) (sym h)
-        ∙ ap (take p) (drop-append_seam front (b.row ++ readings_of bs))
-        ∙ ap (λ k. take k (b.row ++ readings_of bs)) (sym n)
-        ∙ take-append_seam b.row (readings_of bs) in
-    (here,
-    subst (λ rows. RowsAt p rows (suc i) bs) (append_assoc front b.row (readings_of bs))
-    (rows_behind p (suc i) (front ++ b.row) bs (length-append front b.row ∙ (omega (arith, h, n))) w.1))
+    ap (λ k. take p (drop k (front ++ (b.row ++ readings_of bs)))) (sym h)
+    ∙ ap (take p) (drop-append_seam front (b.row ++ readings_of bs))
+    ∙ ap (λ k. take k (b.row ++ readings_of bs)) (sym n)
+    ∙ take-append_seam b.row (readings_of bs) in (
+      here,
+      subst (λ rows. RowsAt p rows (suc i) bs) (append_assoc front b.row (readings_of bs))
+          (rows_behind p (suc i) (front ++ b.row) bs (length-append front b.row ∙ (omega (arith, h, n))) w.1),
+    )
 
 -- so do those of a side
 pub rows_of : (p : ℕ) (bs : List Series) → All (λ b. length b.row ≡ p) bs → RowsAt p (readings_of bs) 0 bs

@@ -1,0 +1,9 @@
+-- `put_point` meets its contract. Assumes nothing.
+
+use Rattle.group_series.proofs.points.put_point.Goals as goal
+
+pub written-requires : goal.written-requires
+written-requires c = tt
+
+pub returns : goal.returns
+returns c = rw c.written.ensures

@@ -1,0 +1,12 @@
+-- `op_if_not` meets its contract, from those of its calls. Assumes nothing.
+use Rattle.set_series.proofs.Masks.{gap_fits, none_chosen}
+use Rattle.set_series.proofs.binaryop.op_if_not.Goals as goal
+
+pub gap-requires : goal.gap-requires
+gap-requires c = tt
+
+pub choose-requires : goal.choose-requires
+choose-requires c = search gap_fits
+
+pub returns : goal.returns
+returns c = search none_chosen

@@ -1,0 +1,31 @@
+-- `default_rows` meets its contract. Assumes nothing.
+use native.Mathlib.Omega.{arith}
+use Rattle.model.specs.Laws.Zipping.{starts, turn, ends}
+use Rattle.set_series.proofs.set_rows.default_rows.Goals as goal
+
+pub loop-i-init : goal.loop-i-init
+loop-i-init c = search starts
+
+pub bounds-left-i : goal.bounds-left-i
+bounds-left-i c = omega arith
+
+pub bounds-right-i : goal.bounds-right-i
+bounds-right-i c = omega arith
+
+pub op_default-requires : goal.op_default-requires
+op_default-requires c = tt
+
+pub bounds-out-i : goal.bounds-out-i
+bounds-out-i c = omega arith
+
+pub overflow_add-i : goal.overflow_add-i
+overflow_add-i c = omega arith
+
+pub loop-i-smaller : goal.loop-i-smaller
+loop-i-smaller c = omega arith
+
+pub loop-i-preserved : goal.loop-i-preserved
+loop-i-preserved c = search turn
+
+pub returns : goal.returns
+returns c = search ends
