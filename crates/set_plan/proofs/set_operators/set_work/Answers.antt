@@ -16,6 +16,3 @@ returns-in-If c = search if_work
 
 pub returns-in-IfNot : goal.returns-in-IfNot
 returns-in-IfNot c = search if_not_work
-
-pub returns-in_default : goal.returns-in_default
-returns-in_default c = search default_work
