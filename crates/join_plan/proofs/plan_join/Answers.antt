@@ -95,11 +95,11 @@ slice_bounds-plan_place-end-then-k-ne-DROPPED-2 c = work_part _ _ _ _ _ _ c.loop
     c.place_leads.auto.hashes
 
 pub plan_place-requires : goal.plan_place-requires
-plan_place-requires c = let kept = c.place_leads.auto.1.1.1.1.1.1.1 in
+plan_place-requires c = let kept = c.place_leads.auto in
     let row = c.place_leads.new.hashes in
     let inv = c.loop-i.invariant in
-    place_held _ _ _ _ _ _ inv c.loop-i-test.true _ refl _ _ kept.0 kept.1.0
-    c.place_leads.ensures _ (work_part _ _ _ _ _ _ inv row kept.1.1.0)
+    place_held _ _ _ _ _ _ inv c.loop-i-test.true _ refl _ _ kept.leads kept.lasts
+    c.place_leads.ensures _ (work_part _ _ _ _ _ _ inv row kept.hashes)
 
 pub enum_known-more : goal.enum_known-more
 enum_known-more c = c.in-Rows.in-Rows-own.keys1
@@ -108,13 +108,13 @@ pub loop-i-smaller-in-Rows : goal.loop-i-smaller-in-Rows
 loop-i-smaller-in-Rows c = fewer_left _ _ _ _ _ _ c.loop-i.invariant c.loop-i-test.true
 
 pub loop-i-preserved-in-Rows : goal.loop-i-preserved-in-Rows
-loop-i-preserved-in-Rows c = let kept = c.place_leads.auto.1.1.1.1.1.1.1 in
+loop-i-preserved-in-Rows c = let kept = c.place_leads.auto in
     let row = c.place_leads.new.hashes in
     let inv = c.loop-i.invariant in
-    planning_rows _ _ _ _ _ _ inv c.loop-i-test.true _ refl _ _ kept.0 kept.1.0
-    c.place_leads.ensures _ (work_part _ _ _ _ _ _ inv row kept.1.1.0) c.if-k-ne-DROPPED.true _ _ _
+    planning_rows _ _ _ _ _ _ inv c.loop-i-test.true _ refl _ _ kept.leads kept.lasts
+    c.place_leads.ensures _ (work_part _ _ _ _ _ _ inv row kept.hashes) c.if-k-ne-DROPPED.true _ _ _
     c.plan_place.ensures _ c.in-Rows.is
-    _ (work_again _ _ _ _ _ _ inv row kept.1.1.0 c.plan_place.new.work
+    _ (work_again _ _ _ _ _ _ inv row kept.hashes c.plan_place.new.work
     c.plan_place.auto.work)
 
 pub enum_known-kept : goal.enum_known-kept
@@ -124,35 +124,35 @@ pub one_twice-requires : goal.one_twice-requires
 one_twice-requires c = tt
 
 pub shape_of-codes-in-Failed : goal.shape_of-codes-in-Failed
-shape_of-codes-in-Failed c = let kept = c.place_leads.auto.1.1.1.1.1.1.1 in
+shape_of-codes-in-Failed c = let kept = c.place_leads.auto in
     let row = c.place_leads.new.hashes in
     let inv = c.loop-i.invariant in
-    after_long _ _ _ _ _ _ inv c.loop-i-test.true _ refl _ _ kept.0 kept.1.0
-    c.place_leads.ensures _ (work_part _ _ _ _ _ _ inv row kept.1.1.0) c.if-k-ne-DROPPED.true _ _ _
+    after_long _ _ _ _ _ _ inv c.loop-i-test.true _ refl _ _ kept.leads kept.lasts
+    c.place_leads.ensures _ (work_part _ _ _ _ _ _ inv row kept.hashes) c.if-k-ne-DROPPED.true _ _ _
     c.plan_place.ensures
 
 pub shape_of-marks-in-Failed : goal.shape_of-marks-in-Failed
-shape_of-marks-in-Failed c = let kept = c.place_leads.auto.1.1.1.1.1.1.1 in
+shape_of-marks-in-Failed c = let kept = c.place_leads.auto in
     let row = c.place_leads.new.hashes in
     let inv = c.loop-i.invariant in
-    words_after _ _ _ _ _ _ inv c.loop-i-test.true _ refl _ _ kept.0 kept.1.0
-    c.place_leads.ensures _ (work_part _ _ _ _ _ _ inv row kept.1.1.0) c.if-k-ne-DROPPED.true _ _ _
+    words_after _ _ _ _ _ _ inv c.loop-i-test.true _ refl _ _ kept.leads kept.lasts
+    c.place_leads.ensures _ (work_part _ _ _ _ _ _ inv row kept.hashes) c.if-k-ne-DROPPED.true _ _ _
     c.plan_place.ensures
 
 pub returns-in-Failed-clause-planned_as : goal.returns-in-Failed-clause-planned_as
-returns-in-Failed-clause-planned_as c = let kept = c.place_leads.auto.1.1.1.1.1.1.1 in
+returns-in-Failed-clause-planned_as c = let kept = c.place_leads.auto in
     let row = c.place_leads.new.hashes in
     let inv = c.loop-i.invariant in
-    let told = c.in-Failed.is in planning_failed _ _ _ _ _ _ inv c.loop-i-test.true _ refl _ _ kept.0 kept.1.0
-    c.place_leads.ensures _ (work_part _ _ _ _ _ _ inv row kept.1.1.0) c.if-k-ne-DROPPED.true _ _ _
+    let told = c.in-Failed.is in planning_failed _ _ _ _ _ _ inv c.loop-i-test.true _ refl _ _ kept.leads kept.lasts
+    c.place_leads.ensures _ (work_part _ _ _ _ _ _ inv row kept.hashes) c.if-k-ne-DROPPED.true _ _ _
     c.plan_place.ensures _ _ told c.args.w.left refl _ c.one_twice.ensures
 
 pub returns-in-Failed-clause-marks_planned : goal.returns-in-Failed-clause-marks_planned
-returns-in-Failed-clause-marks_planned c = let kept = c.place_leads.auto.1.1.1.1.1.1.1 in
+returns-in-Failed-clause-marks_planned c = let kept = c.place_leads.auto in
     let row = c.place_leads.new.hashes in
     let inv = c.loop-i.invariant in
-    let told = c.in-Failed.is in marks_failed _ _ _ _ _ _ inv c.loop-i-test.true _ refl _ _ kept.0 kept.1.0
-    c.place_leads.ensures _ (work_part _ _ _ _ _ _ inv row kept.1.1.0) c.if-k-ne-DROPPED.true _ _ _
+    let told = c.in-Failed.is in marks_failed _ _ _ _ _ _ inv c.loop-i-test.true _ refl _ _ kept.leads kept.lasts
+    c.place_leads.ensures _ (work_part _ _ _ _ _ _ inv row kept.hashes) c.if-k-ne-DROPPED.true _ _ _
     c.plan_place.ensures _ _ told
 
 pub loop-i-smaller : goal.loop-i-smaller
