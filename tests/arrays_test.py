@@ -21,7 +21,7 @@ def crates_below(top):
     for line in (ROOT / 'crates.txt').read_text(encoding='utf-8').splitlines():
         name, colon, others = line.split('#')[0].partition(':')
         if colon:
-            uses[name.strip()] = others.split()
+            uses[name.split()[0]] = others.split()
     found, open_ = set(), [top]
     while open_:
         name = open_.pop()

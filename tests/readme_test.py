@@ -68,7 +68,7 @@ class Examples(unittest.TestCase):
 
     def test_how_many_crates_are_proved(self):
         said = re.search(r'proves the (\d+) crates of the library', README).group(1)
-        uses = dict(re.findall(r'^(\w+):(.*)$', file_text('crates.txt'), re.M))
+        uses = dict(re.findall(r'^(\w+)(?: staticlib)?:(.*)$', file_text('crates.txt'), re.M))
         taken, left = set(), ['nosingcatnip']
         while left:
             name = left.pop()

@@ -9,7 +9,7 @@ fn main() {
         None => Path::new(env!("CARGO_MANIFEST_DIR")).join("../../target/staticlib"),
     };
     let archive = folder.join("libnosingcatnip.a");
-    assert!(archive.is_file(), "{} is not there; `rt staticlib nosingcatnip` makes it", archive.display());
+    assert!(archive.is_file(), "{} is not there; `bindings/build` makes it", archive.display());
     println!("cargo:rerun-if-changed={}", archive.display());
     // For the tests, which link programs in C.
     println!("cargo:rustc-env=NOSINGCATNIP_LIB={}", archive.display());

@@ -9,15 +9,13 @@ pub side_last-requires : goal.side_last-requires
 side_last-requires c = tt
 
 pub put_readings-requires-clause-room : goal.put_readings-requires-clause-room
-put_readings-requires-clause-room c = let got = c.gather_rows.ensures in
-    met_room _ _ _ _ _ _ got c.requires.1
+put_readings-requires-clause-room c = met_room _ _ _ _ _ _ c.gather_rows.ensures c.requires.room
 
 pub put_readings-requires-clause-ready : goal.put_readings-requires-clause-ready
-put_readings-requires-clause-ready c = let got = c.gather_rows.ensures in
-    met_ready _ _ _ _ _ _ got c.requires.0
+put_readings-requires-clause-ready c = met_ready _ _ _ _ _ _ c.gather_rows.ensures c.requires.rows_held
 
 pub returns-clause-out_after : goal.returns-clause-out_after
 returns-clause-out_after c = let row =
     group_row_lem _ _ _ _ _ _ c.gather_rows.ensures _ _ c.put_readings.ensures _
-    c.side_first_lem.ensures c.side_last_lem.ensures in
+    c.side_first.ensures c.side_last.ensures in
     row

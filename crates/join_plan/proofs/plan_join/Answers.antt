@@ -43,11 +43,11 @@ slice_bounds-place_leads-end-then-k-ne-DROPPED-2 c = sym c.loop-i.invariant.spar
 
 pub place_leads-requires-clause-many : goal.place_leads-requires-clause-many
 place_leads-requires-clause-many c = let inv = c.loop-i.invariant in
-    let held = inv.held.right in inv.held.left.records.positions
+    inv.held.left.records.positions
 
 pub place_leads-requires-clause-place : goal.place_leads-requires-clause-place
 place_leads-requires-clause-place c = let inv = c.loop-i.invariant in
-    let held = inv.held.right in record_inside _ _ _ _ _ _ inv c.loop-i-test.true
+    record_inside _ _ _ _ _ _ inv c.loop-i-test.true
 
 pub place_leads-requires-clause-records : goal.place_leads-requires-clause-records
 place_leads-requires-clause-records c = let inv = c.loop-i.invariant in
@@ -59,19 +59,19 @@ place_leads-requires-clause-count c = let inv = c.loop-i.invariant in
 
 pub place_leads-requires-clause-ends : goal.place_leads-requires-clause-ends
 place_leads-requires-clause-ends c = let inv = c.loop-i.invariant in
-    let held = inv.held.right in code _ _ _ _ _ _ inv c.loop-i-test.true
+    code _ _ _ _ _ _ inv c.loop-i-test.true
 
 pub place_leads-requires-clause-room : goal.place_leads-requires-clause-room
 place_leads-requires-clause-room c = let inv = c.loop-i.invariant in
-    let held = inv.held.right in leads_room _ _ _ _ _ _ inv
+    leads_room _ _ _ _ _ _ inv
 
 pub place_leads-requires-clause-noted : goal.place_leads-requires-clause-noted
 place_leads-requires-clause-noted c = let inv = c.loop-i.invariant in
-    let held = inv.held.right in lasts_room _ _ _ _ _ _ inv
+    lasts_room _ _ _ _ _ _ inv
 
 pub place_leads-requires-clause-hashed : goal.place_leads-requires-clause-hashed
 place_leads-requires-clause-hashed c = let inv = c.loop-i.invariant in
-    let held = inv.held.right in hashes_room _ _ _ _ _ _ inv
+    hashes_room _ _ _ _ _ _ inv
 
 pub bounds-rows-1 : goal.bounds-rows-1
 bounds-rows-1 c = second_there

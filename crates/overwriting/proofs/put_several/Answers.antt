@@ -18,10 +18,10 @@ pub put_overwritten-requires-clause-src_len : goal.put_overwritten-requires-clau
 put_overwritten-requires-clause-src_len c = search earlier_long
 
 pub overwrite_between-requires-clause-from_le_to : goal.overwrite_between-requires-clause-from_le_to
-overwrite_between-requires-clause-from_le_to c = let x = c.args in omega arith
+overwrite_between-requires-clause-from_le_to c = omega arith
 
 pub overwrite_between-requires-clause-to_in_bounds : goal.overwrite_between-requires-clause-to_in_bounds
-overwrite_between-requires-clause-to_in_bounds c = let x = c.args in omega arith
+overwrite_between-requires-clause-to_in_bounds c = omega arith
 
 pub overwrite_between-requires-clause-dst_in_bounds : goal.overwrite_between-requires-clause-dst_in_bounds
 overwrite_between-requires-clause-dst_in_bounds c = let x = c.args in several_room x.rows.now x.keys.now (length x.dst.now) c.requires.dst_in_bounds x.last

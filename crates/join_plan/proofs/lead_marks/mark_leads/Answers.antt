@@ -35,12 +35,10 @@ pub note_bucket-from-requires : goal.note_bucket-from-requires
 note_bucket-from-requires c = table_size c.loop-i.invariant
 
 pub find_lead-requires-clause-positions : goal.find_lead-requires-clause-positions
-find_lead-requires-clause-positions c = let inv = c.loop-i.invariant in
-    held_positions c.requires.records
+find_lead-requires-clause-positions c = held_positions c.requires.records
 
 pub find_lead-requires-clause-from_le_o : goal.find_lead-requires-clause-from_le_o
-find_lead-requires-clause-from_le_o c = let inv = c.loop-i.invariant in
-    noted_low _ _ _ _ _ c.note_bucket-from.ensures
+find_lead-requires-clause-from_le_o c = noted_low _ _ _ _ _ c.note_bucket-from.ensures
 
 pub find_lead-requires-clause-o_in_bounds : goal.find_lead-requires-clause-o_in_bounds
 find_lead-requires-clause-o_in_bounds c = let inv = c.loop-i.invariant in
@@ -55,8 +53,7 @@ find_lead-requires-clause-o_in_bounds_3 c = let inv = c.loop-i.invariant in
     hashes_room inv c.loop-i-test.true
 
 pub find_lead-requires-clause-h_value : goal.find_lead-requires-clause-h_value
-find_lead-requires-clause-h_value c = let inv = c.loop-i.invariant in
-    hash_here _ _ _ _ _ _ _ _ c.record.ensures c.hash_edited-h.ensures
+find_lead-requires-clause-h_value c = hash_here _ _ _ _ _ _ _ _ c.record.ensures c.hash_edited-h.ensures
 
 pub offset_bounds-leads-o : goal.offset_bounds-leads-o
 offset_bounds-leads-o c = word_fits c.loop-i.invariant c.loop-i-test.true

@@ -30,8 +30,7 @@ left_answers-here-requires-clause-keys_in_bounds c = let inv = c.loop-i.invarian
     omega (arith, places_length _ _ _ _ _ _ _ _ inv, c.requires.keys_in_bounds)
 
 pub both_code-requires-clause-left_lt_codes : goal.both_code-requires-clause-left_lt_codes
-both_code-requires-clause-left_lt_codes c = let inv = c.loop-i.invariant in
-    omega (arith, c.loop-i-test.true, c.requires.set_held.rows.left.few)
+both_code-requires-clause-left_lt_codes c = omega (arith, c.loop-i-test.true, c.requires.set_held.rows.left.few)
 
 pub both_code-requires-clause-right_lt_codes : goal.both_code-requires-clause-right_lt_codes
 both_code-requires-clause-right_lt_codes c = let inv = c.loop-i.invariant in

@@ -1,0 +1,12 @@
+-- `missing_from` meets its contract. Assumes nothing.
+use Prim.Native.Nat.{◌-◌}
+use lib.ListN.{length, drop}
+use Rattle.model.specs.Row.{only_missing}
+use Rattle.keyed_sides.proofs.dropped.Missing.{Passed}
+use Rattle.keyed_sides.proofs.dropped.missing_from.Given as goal
+
+abbrev pub invariant-loop-i : goal.invariant-loop-i
+invariant-loop-i l = Passed (only_missing (drop l.from l.row)) l.row l.i
+
+abbrev pub decreases-loop-i : goal.decreases-loop-i
+decreases-loop-i l = length l.row - l.i
