@@ -42,7 +42,14 @@ fn print_row(rt: &impl Print, name: &[u8], row: &[u64]) -> io::Result<()> {
     print(rt, b"\n")
 }
 
-fn run_operator(rt: &impl Print, op: u8, bool: bool, left: &[u64], right: &[u64], out: &mut [u64]) -> io::Result<()>
+fn run_operator(
+    rt: &impl Print,
+    op: u8,
+    bool: bool,
+    left: &[u64],
+    right: &[u64],
+    out: &mut [u64],
+) -> io::Result<()>
     requires left_len { length left.now ≡ length out.old }
     requires right_len { length right.now ≡ length out.old }
 {

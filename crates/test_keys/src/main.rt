@@ -168,7 +168,13 @@ fn matching_of(n: u8) -> Matching {
     }
 }
 
-fn answer<'a>(rt: &impl Print, choice: u8, list: &[u8], left: &'a [u8], right: &'a [u8]) -> io::Result<()> {
+fn answer<'a>(
+    rt: &impl Print,
+    choice: u8,
+    list: &[u8],
+    left: &'a [u8],
+    right: &'a [u8],
+) -> io::Result<()> {
     let choice = Choice {
         named: 3 <= choice,
         matching: matching_of(choice % 3),

@@ -42,7 +42,13 @@ fn keyed(rt: &impl Print, a: &[u8], b: &[u8], matching: Matching, list: &[u8]) -
 }
 
 // A record with the tags of its key: tags, bytes, and what stands in a buffer of 187s with the record at place 2, up to the byte behind it.
-fn kept(rt: &impl Print, rec: &[u8], matching: Matching, list: &[u8], keep_name: bool) -> io::Result<()> {
+fn kept(
+    rt: &impl Print,
+    rec: &[u8],
+    matching: Matching,
+    list: &[u8],
+    keep_name: bool,
+) -> io::Result<()> {
     let z = kept_labels::kept_size(rec, matching, list, keep_name);
     print_size(rt, z.tags, z.bytes)?;
     let mut out = [187u8; 20000];

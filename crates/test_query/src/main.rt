@@ -8,7 +8,11 @@ use query::{Join, Query, Request};
 use std::io;
 
 fn print_flag(rt: &impl Print, b: bool) -> io::Result<()> {
-    if b { print(rt, b" 1") } else { print(rt, b" 0") }
+    if b {
+        print(rt, b" 1")
+    } else {
+        print(rt, b" 0")
+    }
 }
 
 fn print_matching(rt: &impl Print, m: Matching) -> io::Result<()> {
