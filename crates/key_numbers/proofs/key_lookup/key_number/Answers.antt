@@ -7,4 +7,4 @@ returns-then-n-j c = search key_absent
 
 pub returns-then-has_key : goal.returns-then-has_key
 returns-then-has_key c = key_there _ _ _ _ _ _ _ c.requires.both_hashed _ _ c.requires.noted _ c.requires.h_value _ c.place_noted-j.ensures
-    c.if-n-j.false _ c.has_key_lem.ensures c.if-has_key.true
+    c.if-n-j.false _ c.has_key.ensures c.if-has_key.true
