@@ -4,15 +4,15 @@
 // two bytes of length, the low byte first, and that many bytes.
 #![tactic(auto)]
 
-ghost use Rattle.std.specs.Prelude.{◌≡◌, ◌+◌, length};
+ghost use Rattle.std.specs.Prelude.{◌≡◌, ◌+◌, length, IfOk};
 ghost use Rattle.side_parts.specs.Sides.{Positions};
 ghost use Rattle.test_keys.specs.Sides.{Side, SideAt};
 
 use case_parts::part_at;
-use case_text::{print, print_number};
+use case_text::{print, print_number, read_input};
 use labels::Matching;
-use libc::STDIN_FILENO;
 use operator::Operator;
+use std::io;
 use timeseries::Taken;
 
 // What a key has in it.
@@ -22,15 +22,15 @@ struct Choice {
     matching: Matching,
 }
 
-fn print_numbers(keys: &[usize]) {
-    let mut i: usize = 0;
-    while i < keys.len() {
-        print_number(keys[i]);
-        i += 1;
+fn print_numbers(rt: &impl Print, keys: &[usize]) -> io::Result<()> {
+    for key in keys {
+        print_number(rt, *key)?;
     }
+    Ok(())
 }
 
 fn number<'a, 'b>(
+    rt: &impl Print,
     choice: Choice,
     list: &[u8],
     left: &'a [u8],
@@ -41,7 +41,7 @@ fn number<'a, 'b>(
     right_at: &'b [usize],
     right_hashes: &mut [u64],
     right_keys: &mut [usize],
-)
+) -> io::Result<()>
     requires positions { Positions left.now left_at.now }
     requires left_at_len { length left_at.now ≡ length left_keys.old + 1 }
     requires left_hashes_len { length left_hashes.old ≡ length left_keys.old }
@@ -64,20 +64,21 @@ fn number<'a, 'b>(
         right_hashes,
         right_keys,
     );
-    print_numbers(left_keys);
-    print(b" |");
-    print_numbers(right_keys);
-    print(b"\n");
+    print_numbers(rt, left_keys)?;
+    print(rt, b" |")?;
+    print_numbers(rt, right_keys)?;
+    print(rt, b"\n")
 }
 
 fn number_sides<'a, 'b>(
+    rt: &impl Print,
     choice: Choice,
     list: &[u8],
     left: &'a [u8],
     left_at: &'b [usize],
     right: &'a [u8],
     right_at: &'b [usize],
-)
+) -> io::Result<()>
     requires side { Side left.now left_at.now }
     requires side_2 { Side right.now right_at.now }
 {
@@ -88,6 +89,7 @@ fn number_sides<'a, 'b>(
     let mut right_hashes = [0u64; 512];
     let mut right_keys = [0usize; 512];
     number(
+        rt,
         choice,
         list,
         left,
@@ -98,57 +100,64 @@ fn number_sides<'a, 'b>(
         right_at,
         &mut right_hashes[..m],
         &mut right_keys[..m],
-    );
+    )
 }
 
 // A side that is not taken, with 01's number and place.
-fn refused(number: usize, place: usize) -> usize
-    ensures { result ≡ 0 }
+fn refused(rt: &impl Print, number: usize, place: usize) -> io::Result<usize>
+    ensures { IfOk result (λ n. n ≡ 0) }
 {
-    print(b"refused");
-    print_number(number);
-    print_number(place);
-    print(b"\n");
-    0
+    print(rt, b"refused")?;
+    print_number(rt, number)?;
+    print_number(rt, place)?;
+    print(rt, b"\n")?;
+    Ok(0)
 }
 
 // Takes a side: how many positions are noted, or 0 where it is refused.
-fn take(labels: &[u8], at: &mut [usize; 513]) -> usize
+fn take(rt: &impl Print, labels: &[u8], at: &mut [usize; 513]) -> io::Result<usize>
     requires { length at.old ≡ 513 }
-    ensures { SideAt labels.now at.new result }
+    ensures { IfOk result (SideAt labels.now at.new) }
 {
     if labels.len() < Operator::SIZES_LENGTH {
-        return refused(3, 0);
+        return refused(rt, 3, 0);
     }
     let none = [0u64; 1];
     match timeseries::take_vector(labels, &none[..0], at) {
-        Taken::Cut(place) => refused(3, place),
-        Taken::BadKey(place) => refused(4, place),
-        Taken::Readings => refused(5, 0),
-        Taken::BadGrid => refused(11, 0),
-        Taken::Vector { series, shape } => series + 1,
+        Taken::Cut(place) => refused(rt, 3, place),
+        Taken::BadKey(place) => refused(rt, 4, place),
+        Taken::Readings => refused(rt, 5, 0),
+        Taken::BadGrid => refused(rt, 11, 0),
+        Taken::Vector { series, shape } => Ok(series + 1),
     }
 }
 
-fn take_sides<'a>(choice: Choice, list: &[u8], left: &'a [u8], right: &'a [u8]) {
+fn take_sides<'a>(
+    rt: &impl Print,
+    choice: Choice,
+    list: &[u8],
+    left: &'a [u8],
+    right: &'a [u8],
+) -> io::Result<()> {
     let mut left_at = [0usize; 513];
-    let n = take(left, &mut left_at);
+    let n = take(rt, left, &mut left_at)?;
     if n == 0 {
-        return;
+        return Ok(());
     }
     let mut right_at = [0usize; 513];
-    let m = take(right, &mut right_at);
+    let m = take(rt, right, &mut right_at)?;
     if m == 0 {
-        return;
+        return Ok(());
     }
     number_sides(
+        rt,
         choice,
         list,
         &left[Operator::SIZES_LENGTH..],
         &left_at[..n],
         &right[Operator::SIZES_LENGTH..],
         &right_at[..m],
-    );
+    )
 }
 
 fn matching_of(n: u8) -> Matching {
@@ -159,15 +168,21 @@ fn matching_of(n: u8) -> Matching {
     }
 }
 
-fn answer<'a>(choice: u8, list: &[u8], left: &'a [u8], right: &'a [u8]) {
+fn answer<'a>(
+    rt: &impl Print,
+    choice: u8,
+    list: &[u8],
+    left: &'a [u8],
+    right: &'a [u8],
+) -> io::Result<()> {
     let choice = Choice {
         named: 3 <= choice,
         matching: matching_of(choice % 3),
     };
-    take_sides(choice, list, left, right)
+    take_sides(rt, choice, list, left, right)
 }
 
-fn run(s: &[u8]) {
+fn run(rt: &impl Print, s: &[u8]) -> io::Result<()> {
     let mut p: usize = 0;
     while p < s.len() {
         let list = part_at(s, p + 1);
@@ -175,13 +190,13 @@ fn run(s: &[u8]) {
         let left = part_at(s, left_at);
         let right_at = left_at + 2 + left.len();
         let right = part_at(s, right_at);
-        answer(s[p], list, left, right);
+        answer(rt, s[p], list, left, right)?;
         p = right_at + 2 + right.len();
     }
+    Ok(())
 }
 
-fn main() {
-    let mut input = [0u8; 262144];
-    let n = io::read_full(STDIN_FILENO, &mut input);
-    run(&input[..n]);
+fn main(rt: HostRuntime) -> io::Result<()> {
+    let input = read_input(&rt, 262144)?;
+    run(&rt, &input)
 }

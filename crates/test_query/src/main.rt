@@ -2,68 +2,73 @@
 #![tactic(auto)]
 
 use case_parts::part_at;
-use case_text::{print, print_number};
+use case_text::{print, print_number, read_input};
 use labels::Matching;
 use query::{Join, Query, Request};
+use std::io;
 
-fn print_flag(b: bool) {
-    if b { print(b" 1") } else { print(b" 0") }
-}
-
-fn print_matching(m: Matching) {
-    match m {
-        Matching::All => print(b" all"),
-        Matching::On => print(b" on"),
-        Matching::Ignoring => print(b" ignoring"),
+fn print_flag(rt: &impl Print, b: bool) -> io::Result<()> {
+    if b {
+        print(rt, b" 1")
+    } else {
+        print(rt, b" 0")
     }
 }
 
-fn print_join(j: Join) {
+fn print_matching(rt: &impl Print, m: Matching) -> io::Result<()> {
+    match m {
+        Matching::All => print(rt, b" all"),
+        Matching::On => print(rt, b" on"),
+        Matching::Ignoring => print(rt, b" ignoring"),
+    }
+}
+
+fn print_join(rt: &impl Print, j: Join) -> io::Result<()> {
     match j {
-        Join::OneToOne => print(b" one"),
-        Join::GroupLeft => print(b" left"),
-        Join::GroupRight => print(b" right"),
+        Join::OneToOne => print(rt, b" one"),
+        Join::GroupLeft => print(rt, b" left"),
+        Join::GroupRight => print(rt, b" right"),
     }
 }
 
 // Comparison, logical, matching, join, flags, whether the name is cleared, the join list's place, the allowance.
-fn print_query(q: Query) {
-    print(b"asked");
+fn print_query(rt: &impl Print, q: Query) -> io::Result<()> {
+    print(rt, b"asked")?;
     let operator = q.operator;
-    print_flag(operator.is_comparison());
-    print_flag(operator.is_logical_op());
+    print_flag(rt, operator.is_comparison())?;
+    print_flag(rt, operator.is_logical_op())?;
     let matching = q.matching;
-    print_matching(matching);
+    print_matching(rt, matching)?;
     let join = q.join;
-    print_join(join);
-    print_flag(q.keep_names);
-    print_flag(q.as_bool);
-    print_flag(query_rules::should_reset_metric_group(q));
-    print_number(q.join_at);
-    print_number(q.allowance);
-    print(b"\n");
+    print_join(rt, join)?;
+    print_flag(rt, q.keep_names)?;
+    print_flag(rt, q.as_bool)?;
+    print_flag(rt, query_rules::should_reset_metric_group(q))?;
+    print_number(rt, q.join_at)?;
+    print_number(rt, q.allowance)?;
+    print(rt, b"\n")
 }
 
-fn take(s: &[u8]) {
+fn take(rt: &impl Print, s: &[u8]) -> io::Result<()> {
     match query::take_query(s) {
-        Request::Asked(q) => print_query(q),
-        Request::BadOperator => print(b"refused 1 0 0\n"),
-        Request::Malformed => print(b"refused 2 0 0\n"),
-        Request::BadAllowance => print(b"refused 13 0 0\n"),
+        Request::Asked(q) => print_query(rt, q),
+        Request::BadOperator => print(rt, b"refused 1 0 0\n"),
+        Request::Malformed => print(rt, b"refused 2 0 0\n"),
+        Request::BadAllowance => print(rt, b"refused 13 0 0\n"),
     }
 }
 
-fn run(s: &[u8]) {
+fn run(rt: &impl Print, s: &[u8]) -> io::Result<()> {
     let mut p: usize = 0;
     while p < s.len() {
         let query = part_at(s, p);
-        take(query);
+        take(rt, query)?;
         p += 2 + query.len();
     }
+    Ok(())
 }
 
-fn main() {
-    let mut input = io::large_buffer();
-    let n = io::read_full(0, &mut input);
-    run(&input[..n]);
+fn main(rt: HostRuntime) -> io::Result<()> {
+    let input = read_input(&rt, 65536)?;
+    run(&rt, &input)
 }

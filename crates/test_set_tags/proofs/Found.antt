@@ -1,4 +1,4 @@
--- Where a record that was read starts and ends. Assumes nothing.
+-- Where a record that was read ends. Assumes nothing.
 use Prim.Native.Nat.{ℕ, ◌≤◌}
 use mathlib.Core.Path.{◌≡◌}
 use mathlib.Core.List.{List}
@@ -14,6 +14,3 @@ module _ (s : List ℕ) (at next : ℕ) (x : Record)
     (read : record_answer x ≡ decoded_answer (length s) (decode (drop at s))) (e : x ≡ Ok next) where
   pub found_order : at ≤ next
   found_order = omega (arith, (record_found s at next x read e).order)
-
-  pub found_within : next ≤ length s
-  found_within = (record_found s at next x read e).within

@@ -9,36 +9,46 @@ ghost use Rattle.model.specs.Limits.{max_label_bytes};
 ghost use Rattle.set_tags.specs.Records.{ShortRecords};
 
 use case_parts::part_at;
-use case_text::{print, print_bool, print_front, print_size};
+use case_text::{print, print_bool, print_front, print_size, read_input};
 use label_records::Record;
-use libc::{STDIN_FILENO, STDOUT_FILENO};
 use operator::Operator;
 use set_tags::Naming;
+use std::io;
 
 // The edited record: tags, bytes, and what stands in a buffer of 187s with the record at place 2, up to the byte behind it.
-fn edit<'a>(many: &'a [u8], source: &'a [u8], join: &[u8], skip: &[u8], naming: Naming)
+fn edit<'a>(
+    rt: &impl Print,
+    many: &'a [u8],
+    source: &'a [u8],
+    join: &[u8],
+    skip: &[u8],
+    naming: Naming,
+) -> io::Result<()>
     requires { ShortRecords many.now source.now }
 {
     let z = set_tags::set_tags_size(many, source, join, skip, naming);
-    print_size(z.tags, z.bytes);
+    print_size(rt, z.tags, z.bytes)?;
     let mut out = [187u8; 20000];
     if z.tags <= Operator::MAX_TAGS {
         if z.bytes <= 19000 {
             let e = set_tags::set_tags(&mut out, 2, many, source, join, skip, naming);
-            print_front(&out, e);
+            print_front(rt, &out, e)?;
         }
     }
+    Ok(())
 }
 
 // The edited tags of two sources, compared and hashed.
-fn compare<'a>(many: &'a [u8], source: &'a [u8], other: &'a [u8], join: &[u8], skip: &[u8]) {
-    print_bool(set_tags::same_edited(many, source, other, join, skip));
-    io::print_hex(
-        STDOUT_FILENO,
-        set_tags::hash_edited(many, source, join, skip),
-        16,
-    );
-    print(b" ");
+fn compare<'a>(
+    rt: &impl Print,
+    many: &'a [u8],
+    source: &'a [u8],
+    other: &'a [u8],
+    join: &[u8],
+    skip: &[u8],
+) -> io::Result<()> {
+    print_bool(rt, set_tags::same_edited(many, source, other, join, skip))?;
+    print!(rt; "{:016x} ", set_tags::hash_edited(many, source, join, skip))
 }
 
 // The record at a place; nothing where it is refused.
@@ -52,7 +62,7 @@ fn record_at<'a>(s: &'a [u8], at: usize) -> &'a [u8]
     }
 }
 
-fn answer(case: &[u8])
+fn answer(rt: &impl Print, case: &[u8]) -> io::Result<()>
     requires { length case.now ≤ max_label_bytes }
 {
     let join = part_at(case, 1);
@@ -65,25 +75,25 @@ fn answer(case: &[u8])
     let d = c + source.len();
     let other = record_at(case, d);
     if other.len() == 0 {
-        return print(b"refused\n");
+        return print(rt, b"refused\n");
     }
     let naming = set_tags::naming_of(join, skip, case[0] == 1);
-    compare(many, source, other, join, skip);
-    edit(many, source, join, skip, naming);
-    print(b"\n");
+    compare(rt, many, source, other, join, skip)?;
+    edit(rt, many, source, join, skip, naming)?;
+    print(rt, b"\n")
 }
 
-fn run(s: &[u8]) {
+fn run(rt: &impl Print, s: &[u8]) -> io::Result<()> {
     let mut p: usize = 0;
     while p < s.len() {
         let case = part_at(s, p);
-        answer(case);
+        answer(rt, case)?;
         p += 2 + case.len();
     }
+    Ok(())
 }
 
-fn main() {
-    let mut input = [0u8; 262144];
-    let n = io::read_full(STDIN_FILENO, &mut input);
-    run(&input[..n]);
+fn main(rt: HostRuntime) -> io::Result<()> {
+    let input = read_input(&rt, 262144)?;
+    run(&rt, &input)
 }

@@ -5,16 +5,17 @@ ghost use Rattle.std.specs.Prelude.{◌≤◌, length};
 ghost use Rattle.vecop_run.specs.Vecop.{max_text};
 
 use case_parts::number_at;
-use libc::STDIN_FILENO;
+use case_text::{print, read_input};
+use std::io;
 
-fn show(s: &[u8], text: &mut [u8])
+fn show(rt: &impl Print, s: &[u8], text: &mut [u8]) -> io::Result<()>
     requires { max_text ≤ length text.old }
 {
     let k = vecop_run::vecop(s, text);
-    case_text::print(&text[..k]);
+    print(rt, &text[..k])
 }
 
-fn run(s: &[u8], text: &mut [u8])
+fn run(rt: &impl Print, s: &[u8], text: &mut [u8]) -> io::Result<()>
     requires { max_text ≤ length text.old }
 {
     let mut p: usize = 0;
@@ -23,16 +24,16 @@ fn run(s: &[u8], text: &mut [u8])
         let start = p + 4;
         let end = start + n;
         if s.len() < end {
-            return;
+            return Ok(());
         }
-        show(&s[start..end], text);
+        show(rt, &s[start..end], text)?;
         p = end;
     }
+    Ok(())
 }
 
-fn main() {
-    let mut input = [0u8; 524288];
-    let n = io::read_full(STDIN_FILENO, &mut input);
+fn main(rt: HostRuntime) -> io::Result<()> {
+    let input = read_input(&rt, 524288)?;
     let mut text = [0u8; vecop_run::MAX_TEXT];
-    run(&input[..n], &mut text);
+    run(&rt, &input, &mut text)
 }

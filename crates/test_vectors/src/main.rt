@@ -4,75 +4,75 @@
 #![tactic(auto)]
 
 use case_parts::{number_at, part_at};
-use case_text::{print, print_number};
-use libc::STDIN_FILENO;
+use case_text::{print, print_number, read_input};
+use std::io;
 use timeseries::Taken;
 
-fn print_taken(t: Taken) {
+fn print_taken(rt: &impl Print, t: Taken) -> io::Result<()> {
     match t {
         Taken::Vector { series, shape } => {
-            print(b"vector");
-            print_number(series);
-            print_number(shape.points);
-            print_number(shape.start);
-            print_number(shape.step);
+            print(rt, b"vector")?;
+            print_number(rt, series)?;
+            print_number(rt, shape.points)?;
+            print_number(rt, shape.start)?;
+            print_number(rt, shape.step)
         }
         Taken::Cut(i) => {
-            print(b"3");
-            print_number(i);
+            print(rt, b"3")?;
+            print_number(rt, i)
         }
         Taken::BadKey(i) => {
-            print(b"4");
-            print_number(i);
+            print(rt, b"4")?;
+            print_number(rt, i)
         }
-        Taken::Readings => print(b"5 0"),
-        Taken::BadGrid => print(b"11 0"),
+        Taken::Readings => print(rt, b"5 0"),
+        Taken::BadGrid => print(rt, b"11 0"),
     }
 }
 
 // What an array of positions held before taking.
 const UNTOUCHED: usize = 99999;
 
-fn print_position(n: usize) {
+fn print_position(rt: &impl Print, n: usize) -> io::Result<()> {
     if n != UNTOUCHED {
-        print_number(n);
+        print_number(rt, n)?;
     }
+    Ok(())
 }
 
-fn print_positions(at: &[usize; 513]) {
-    let mut i: usize = 0;
-    while i < 513 {
-        print_position(at[i]);
-        i += 1;
+fn print_positions(rt: &impl Print, at: &[usize; 513]) -> io::Result<()> {
+    for n in at {
+        print_position(rt, *n)?;
     }
+    Ok(())
 }
 
 // Takes a label part with some readings.
-fn take(labels: &[u8], readings: usize) {
+fn take(rt: &impl Print, labels: &[u8], readings: usize) -> io::Result<()> {
     let rows = [0u64; 4096];
     if 4096 < readings {
-        return;
+        return Ok(());
     }
     let mut at = [99999usize; 513];
     let t = timeseries::take_vector(labels, &rows[..readings], &mut at);
-    print_taken(t);
-    print(b" at");
-    print_positions(&at);
-    print(b"\n");
+    print_taken(rt, t)?;
+    print(rt, b" at")?;
+    print_positions(rt, &at)?;
+    print(rt, b"\n")
 }
 
-fn run(s: &[u8]) {
+fn run(rt: &impl Print, s: &[u8]) -> io::Result<()> {
     let mut p: usize = 0;
     while p < s.len() {
         let labels = part_at(s, p);
         let readings_at = p + 2 + labels.len();
-        take(labels, number_at(s, readings_at));
+        take(rt, labels, number_at(s, readings_at))?;
         p = readings_at + 2;
     }
+    Ok(())
 }
 
-fn main() {
-    let mut input = io::large_buffer();
-    let n = io::read_full(STDIN_FILENO, &mut input);
-    run(&input[..n]);
+fn main(rt: HostRuntime) -> io::Result<()> {
+    let input = read_input(&rt, 65536)?;
+    run(&rt, &input)
 }

@@ -1,13 +1,16 @@
 // Reads a query and two vectors from standard input, and prints the answer or the refusal; or `unreadable`.
 #![tactic(auto)]
 
-use libc::{STDIN_FILENO, STDOUT_FILENO};
+use std::io;
+use std::io::Read;
 
-// The input's buffer holds a byte more than an input may have.
-fn main() {
-    let mut input = [0u8; 65537];
-    let n = io::read_full(STDIN_FILENO, &mut input);
+// A byte more than an input may have.
+const MOST_READ: u64 = 65537;
+
+fn main(rt: HostRuntime) -> io::Result<()> {
+    let mut input = Vec::new(rt.alloc());
+    rt.reader().take(MOST_READ).read_to_end(&mut input)?;
     let mut text = [0u8; vecop_run::MAX_TEXT];
-    let k = vecop_run::vecop(&input[..n], &mut text);
-    io::write_all(STDOUT_FILENO, &text[..k]);
+    let k = vecop_run::vecop(&input, &mut text);
+    rt.write_all(&text[..k])
 }
