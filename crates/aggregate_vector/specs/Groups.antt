@@ -7,7 +7,7 @@ use Rattle.model.specs.Edits.{Names, is_listed, remove_tags_ignoring}
 use Rattle.model.specs.Query.{Matching, on, ignoring, key_of}
 use Rattle.model.specs.Aggregation.{Grouping, by, without, Aggregation, remove_group_tags, group_labels, same_group}
 use Rattle.model.specs.Vector.{Series, Shape, series_of, take_vector}
-use Rattle.model.specs.Laws.Vector.{series_labels, series_count_lem}
+use Rattle.model.proofs.Laws.Vector.{series_labels, series_count_lem}
 use Rattle.semantics.specs.Call.{Outcome, concluded, fit, on_vector}
 use Rattle.semantics.specs.Aggregates.{aggregate_verdict}
 use Rattle.plan.specs.Pairs.{no_labels}

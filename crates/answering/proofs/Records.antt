@@ -9,7 +9,7 @@ use lib.ListN.{length, get_or}
 use borrow.Author.Tests.{ltb-false}
 use Rattle.model.specs.Limits.{max_tags}
 use Rattle.model.specs.Labels.{Labels}
-use Rattle.model.specs.Laws.Booleans.{neither_of}
+use Rattle.model.proofs.Laws.Booleans.{neither_of}
 use Rattle.model.specs.Record.{encode}
 use Rattle.side_parts.specs.Lent.{Sides}
 use Rattle.answers.specs.Tallies.{some_wide}

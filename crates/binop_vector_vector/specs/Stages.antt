@@ -3,7 +3,7 @@ use Rattle.std.specs.Prelude.{ℕ, ◌≡◌, true, List}
 use Rattle.std.proofs.Common.{ap}
 use Rattle.operator.specs.Operators.{is_carried}
 use Rattle.model.specs.Query as Model
-use Rattle.model.specs.Laws.Query.{taken_query}
+use Rattle.model.proofs.Laws.Query.{taken_query}
 use Rattle.model.specs.Vector.{Vector, take_vector}
 use Rattle.semantics.specs.Call.{Outcome, refused, running, on_vector, on_query, call}
 use Rattle.query.specs.declared.Query.{Query}

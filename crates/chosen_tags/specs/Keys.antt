@@ -5,7 +5,7 @@ use Rattle.model.specs.Labels.{Tag, same_tags}
 use Rattle.model.specs.Record.{encode_tags}
 use Rattle.model.specs.Edits.{Names, is_listed, tags_on, tags_ignoring}
 use Rattle.model.specs.Query.{Matching, all, on, ignoring, key_of}
-use Rattle.model.specs.Laws.Tags.{same_tags_is}
+use Rattle.model.proofs.Laws.Tags.{same_tags_is}
 use Rattle.labels.specs.Names.{names_of}
 use Rattle.record_tags.specs.Lenient.{labels_of}
 use Rattle.record_tags.specs.Cursors.{Sieve}

@@ -8,7 +8,7 @@ use lib.ListN.{length, get_or, length-map}
 use borrow.Author.Tests.{eqb-true}
 use Rattle.model.specs.Limits.{max_series}
 use Rattle.model.specs.Lists.{cases, All}
-use Rattle.model.specs.Laws.Lists.{map_at}
+use Rattle.model.proofs.Laws.Lists.{map_at}
 use Rattle.plan.specs.Keys.{first_of}
 use Rattle.plan.specs.Aggregates.{firsts_from, group_rows}
 use Rattle.plan.specs.Laws.Common.{From, from_all, from_next, from_here}

@@ -16,7 +16,7 @@ use Rattle.model.specs.Limits.{max_series, max_points}
 use Rattle.model.specs.Lists.{cases}
 use Rattle.model.specs.Labels.{Labels}
 use Rattle.model.specs.Query.{Side, left, right}
-use Rattle.model.specs.Laws.Lists.{sets_append}
+use Rattle.model.proofs.Laws.Lists.{sets_append}
 use Rattle.semantics.specs.Events.{Duplicate}
 use Rattle.semantics.specs.Rules.{other}
 use Rattle.plan.specs.Keys.{dropped}

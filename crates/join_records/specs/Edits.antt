@@ -2,7 +2,7 @@
 use Rattle.std.specs.Prelude.{ℕ, ◌≡◌, refl, List, []}
 use Rattle.model.specs.Labels.{Labels}
 use Rattle.model.specs.Edits.{Names}
-use Rattle.model.specs.Laws.SetTags.{walk_tags}
+use Rattle.model.specs.TagWalk.{walk_tags}
 use Rattle.plan.specs.Joins.{Edit}
 use Rattle.record_tags.specs.Lenient.{labels_of}
 use Rattle.set_tags.specs.declared.naming.Naming.{Naming}

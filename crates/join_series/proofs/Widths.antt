@@ -6,7 +6,7 @@ use mathlib.Core.List.{List}
 use native.Mathlib.Omega.{arith}
 use lib.ListN.{length, drop, length-append, length-drop}
 use Rattle.model.specs.Lists.{cases}
-use Rattle.model.specs.Laws.Row.{zip_wide}
+use Rattle.model.proofs.Laws.Row.{zip_wide}
 use Rattle.model.specs.Reading.{scalar_op}
 use Rattle.model.specs.Query.{left, right}
 use Rattle.semantics.specs.Binop.{join_rows}

@@ -13,7 +13,7 @@ use Rattle.model.specs.Labels.{Tag, Labels}
 use Rattle.model.specs.Record.{Field, short, field, read_field, on_field, encode_field, encode_tags, encode}
 use Rattle.model.specs.Edits.{Names}
 use Rattle.model.specs.Query.{Matching, key_of}
-use Rattle.model.specs.Laws.Record.{field_read}
+use Rattle.model.proofs.Laws.Record.{field_read}
 use Rattle.record_tags.specs.Lenient.{tags_up_to, tags_counted, labels_of}
 use Rattle.record_tags.specs.Cursors.{encode_tag, encode_tag_lem, tag_at, Standing, NextAt, Sieve}
 use Rattle.chosen_tags.specs.Keys.{is_chosen, key_sieve}

@@ -7,7 +7,7 @@ use native.Mathlib.Numerals.{add-one}
 use native.Mathlib.Omega.{arith}
 use lib.ListN.{length, get_or, take, drop, set, length-map, get_or-append}
 use lib.Seq.{sets, sets-eq, length-sets, take-suc, take_all, drop_at, length-take-le, get_or-append-add, get_or-drop}
-use Rattle.model.specs.Laws.Lists.{map_at, sets_append}
+use Rattle.model.proofs.Laws.Lists.{map_at, sets_append}
 use Rattle.end_codes.specs.Codes.{codes, both_code}
 use Rattle.key_ends.specs.Ends.{ends_code, pair_code, SideEnds, SideEndsPut, PairEndsPut, code_small}
 

@@ -12,7 +12,7 @@ use lib.Seq.{take-suc, take-suc-set, take_all, length-take-le}
 use Rattle.model.specs.Labels.{Labels}
 use Rattle.model.specs.Edits.{Names}
 use Rattle.model.specs.Query.{Matching}
-use Rattle.model.specs.Laws.Lists.{map_append}
+use Rattle.model.proofs.Laws.Lists.{map_append}
 use Rattle.labels.specs.Names.{names_of}
 use Rattle.record_tags.specs.Lenient.{labels_of}
 use Rattle.side_parts.specs.Sides.{record_at, labels_in, Positions}

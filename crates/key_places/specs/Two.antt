@@ -8,7 +8,7 @@ use native.Mathlib.Omega.{arith}
 use Rattle.std.proofs.Math.ListN.{get_or}
 use borrow.Author.Tests.{eqb-true, eq-eqb, leb-true, leb-false, ltb-true, ltb-false, le-ltb, lt-ltb}
 use Rattle.model.specs.Lists.{cases}
-use Rattle.model.specs.Laws.Booleans.{never, both_of}
+use Rattle.model.proofs.Laws.Booleans.{never, both_of}
 use Rattle.plan.specs.Keys.{first_of, last_of}
 use Rattle.plan.specs.Laws.Ends.{first_is, first_before, last_within, last_is, last_greatest}
 use Rattle.end_codes.specs.Codes.{left_first, left_last, right_first, right_last}

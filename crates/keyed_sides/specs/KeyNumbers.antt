@@ -4,7 +4,7 @@ use Rattle.std.proofs.Common.{sym, ap, ◌∙◌, arith}
 use Rattle.model.specs.Labels.{Labels}
 use Rattle.model.specs.Query.{Query, same_key}
 use Rattle.model.specs.Vector.{Series, series_of}
-use Rattle.model.specs.Laws.Vector.{series_labels, series_count_lem}
+use Rattle.model.proofs.Laws.Vector.{series_labels, series_count_lem}
 use Rattle.keyed_sides.specs.Dropped.{kept_number, dropped_missing}
 use Rattle.key_numbers.specs.key_lookup.Keys.{same_keys, numbers}
 use Rattle.key_numbers.specs.key_lookup.KeyLaws.{left_left_lem, left_right_lem, right_right_lem, left_below_lem, right_below_lem}

@@ -7,7 +7,7 @@ use Rattle.model.specs.Lists.{All}
 use Rattle.model.specs.Labels.{Labels, Bytes, WellFormed}
 use Rattle.model.specs.Record.{encode}
 use Rattle.model.specs.Vector.{Series, Shape, Vector, Readings, GoodSeries, GoodGrid, vector, take_vector, label_part}
-use Rattle.model.specs.Laws.Vector.{taken_is}
+use Rattle.model.proofs.Laws.Vector.{taken_is}
 use Rattle.record_tags.specs.Lenient.{labels_of, labels_encoded}
 use Rattle.side_parts.specs.Sides.{record_at, lent_series}
 use Rattle.side_parts.specs.SideLaws.{record_starts}

@@ -15,8 +15,8 @@ use borrow.Author.Tests.{le-leb, lt-leb, leb-true, leb-false, lt-ltb, le-ltb}
 use Rattle.model.specs.Reading.{missing}
 use Rattle.model.specs.Row.{overlaps, overwritten, merged}
 use Rattle.model.specs.Lists.{cases}
-use Rattle.model.specs.Laws.Row.{overwritten_wide}
-use Rattle.model.specs.Laws.Booleans.{and_true, and_false}
+use Rattle.model.proofs.Laws.Row.{overwritten_wide}
+use Rattle.model.proofs.Laws.Booleans.{and_true, and_false}
 use Rattle.reading.specs.Gaps.{gap_of}
 use Rattle.mergeable.specs.Mergeable.{either_gap, source_first, merged_if, mergeable}
 

@@ -6,10 +6,10 @@ pub mod Numerals
 pub mod Labels
 pub mod Record
 pub mod Edits
+pub mod TagWalk
 pub mod Query
 pub mod Vector
 pub mod Aggregate
 pub mod Aggregation
 pub mod Computing
 pub mod Examples
-pub mod Laws

@@ -14,7 +14,7 @@ use lib.Pow.{shr-shr}
 use borrow.Author.Tests.{eq-eqb, ne_eqb, leb-true, leb-false}
 use Rattle.model.specs.Lists.{cases}
 use Rattle.model.specs.Row.{overwritten}
-use Rattle.model.specs.Laws.Row.{overwritten_wide}
+use Rattle.model.proofs.Laws.Row.{overwritten_wide}
 use Rattle.side_parts.specs.Sides.{row_at}
 use Rattle.side_parts.specs.SideLaws.{row_in, row_width}
 use Rattle.overwriting.specs.Overwriting.{overwritten_if, overwritten_by, in_group, row_of_several}

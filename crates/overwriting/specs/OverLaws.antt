@@ -9,7 +9,7 @@ use mathlib.Core.List.{List, [], ◌∷◌}
 use native.Mathlib.Omega.{arith}
 use Rattle.std.proofs.Math.Dec.{eqb, ltb}
 use Rattle.model.specs.Row.{overlaps, overwritten, merged}
-use Rattle.model.specs.Laws.Row.{overwritten_wide}
+use Rattle.model.proofs.Laws.Row.{overwritten_wide}
 use Rattle.plan.specs.Merging.{row, failed_at, on_row, merge_group}
 use Rattle.side_parts.specs.Sides.{row_at}
 use Rattle.overwriting.specs.Overwriting.{overwritten_by, row_of_several}

@@ -8,8 +8,8 @@ use Rattle.model.specs.Labels.{Tag, Labels, same_bytes, below, name_label, may_f
 use Rattle.model.specs.Edits.{Names, is_listed, tags_on, tags_ignoring, remove_tags_on, remove_tags_ignoring, clear_name_if}
 use Rattle.model.specs.Query as Model
 use Rattle.model.specs.Query.{key_of, should_reset_metric_group}
-use Rattle.model.specs.Laws.Booleans.{both_of, never}
-use Rattle.model.specs.Laws.Order.{same_is, same_refl, is_same}
+use Rattle.model.proofs.Laws.Booleans.{both_of, never}
+use Rattle.model.proofs.Laws.Order.{same_is, same_refl, is_same}
 use Rattle.kept_labels.specs.Edited.{kept}
 use Rattle.semantics.specs.Binop.{edited_by, adjust_binary_op_tags}
 use Rattle.pair_records.specs.adjusted_labels.Edits.{leaves_name, edited}

@@ -9,7 +9,7 @@ use lib.ListN.{length, drop, length-append, length-drop}
 use Rattle.operator.specs.declared.Operator.{Operator}
 use Rattle.model.specs.Lists.{cases}
 use Rattle.model.specs.Reading.{scalar_op}
-use Rattle.model.specs.Laws.Row.{zip_wide}
+use Rattle.model.proofs.Laws.Row.{zip_wide}
 use Rattle.side_parts.specs.Sides.{row_at}
 use Rattle.side_parts.specs.Lent.{RowsHeld, BothRowsHeld, Sides}
 use Rattle.overwriting.specs.Overwriting.{row_of_several}

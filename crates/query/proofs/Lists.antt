@@ -12,10 +12,10 @@ use borrow.Author.Tests.{ne_eqb}
 use Rattle.model.specs.Limits.{max_listed}
 use Rattle.model.specs.Lists.{is_empty}
 use Rattle.model.specs.Record.{Field, short, field, read_field, on_field, encode_field}
-use Rattle.model.specs.Laws.Record.{read_field_lem, field_read}
+use Rattle.model.proofs.Laws.Record.{read_field_lem, field_read}
 use Rattle.model.specs.Edits.{Names}
 use Rattle.model.specs.Query.{Listed, not_listed, listed, with_name, names_in, list_in, on_listed}
-use Rattle.model.specs.Laws.Query.{not_listed_lem}
+use Rattle.model.proofs.Laws.Query.{not_listed_lem}
 use Rattle.labels.specs.Names.{names_of, names_listed}
 use Rattle.query.specs.declared.list_ends.ListEnd.{ListEnd}
 use Rattle.query.specs.declared.list_ends.ListEnd.TheVariants.{Until, Bad}

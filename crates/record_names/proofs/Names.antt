@@ -7,7 +7,7 @@ use native.Mathlib.Omega.{arith}
 use lib.ListN.{length, take, drop, length-append, length-drop}
 use lib.Seq.{take_at, length-take-le}
 use Rattle.model.specs.Record.{encode_field}
-use Rattle.model.specs.Laws.Record.{field_read}
+use Rattle.model.proofs.Laws.Record.{field_read}
 use Rattle.fields.specs.Fields.{field_at}
 use Rattle.record_tags.specs.Lenient.{labels_of}
 use Rattle.fields.specs.declared.Place.{Place}

@@ -14,7 +14,7 @@ use borrow.Author.Tests.{lt-ltb, le-ltb}
 use Rattle.model.specs.Lists.{is_empty}
 use Rattle.model.specs.Labels.{Tag}
 use Rattle.model.specs.Record.{field, read_field, encode_field}
-use Rattle.model.specs.Laws.Record.{field_read}
+use Rattle.model.proofs.Laws.Record.{field_read}
 use Rattle.fields.specs.Fields.{field_at}
 use Rattle.record_tags.specs.Lenient.{tags_up_to, labels_of}
 use Rattle.record_tags.specs.Cursors.{on_place, no_tags, tags_place, TagsOf, encode_tag, tag_at, Standing, StandingNext}

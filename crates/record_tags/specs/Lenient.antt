@@ -4,7 +4,7 @@ use Rattle.std.proofs.Common.{sym, ap, ◌∙◌, append_assoc, append-nil, arit
 use Rattle.std.proofs.Math.Seq.{drop-append_seam}
 use Rattle.model.specs.Labels.{Tag, Labels}
 use Rattle.model.specs.Record.{read_field, on_field, Decoded, decoded, cut, bad_key, decode, encode_field, encode_tags, encode}
-use Rattle.model.specs.Laws.Record.{read_field_lem, encode_split, decode_is}
+use Rattle.model.proofs.Laws.Record.{read_field_lem, encode_split, decode_is}
 use Rattle.labels.specs.Names.{front}
 use Rattle.label_records.specs.Records.{behind, record_answer, decoded_answer}
 use Rattle.label_records.specs.declared.Record.{Record}

@@ -10,8 +10,8 @@ use borrow.Author.Tests.{lt-ltb, ltb-true}
 use Rattle.operator.specs.Kinds.{Kind, arithmetic, comparison, set_rule, fallback, not_carried}
 use Rattle.model.specs.Lists.{cases, All, is_empty}
 use Rattle.model.specs.Labels.{Labels}
-use Rattle.model.specs.Laws.Booleans.{never}
-use Rattle.model.specs.Laws.Lists.{All-append, map_map, map_at}
+use Rattle.model.proofs.Laws.Booleans.{never}
+use Rattle.model.proofs.Laws.Lists.{All-append, map_map, map_at}
 use Rattle.plan.specs.Keys.{first_of}
 use Rattle.plan.specs.Sets.{SetWork, is_scalar, work_by, rule_by, work_for, met_places, answers_at}
 use Rattle.plan.specs.Sets.{lefts_from, rights_from, set_rows, set_series}

@@ -11,8 +11,8 @@ use Rattle.model.specs.Lists.{cases, keep}
 use Rattle.model.specs.Labels.{Tag, same_bytes, below}
 use Rattle.model.specs.Record.{encode_field, encode_tags}
 use Rattle.model.specs.Edits.{Names}
-use Rattle.model.specs.Laws.SetTags.{is_set, remains, cons_if, walk_tags}
-use Rattle.model.specs.Laws.SetTags.{walk_many, walk_both, walk_lower, walk_higher}
+use Rattle.model.specs.TagWalk.{is_set, remains, cons_if, walk_tags}
+use Rattle.model.proofs.Laws.SetTags.{walk_many, walk_both, walk_lower, walk_higher}
 use Rattle.record_tags.specs.Lenient.{labels_of}
 use Rattle.record_tags.specs.Cursors.{encode_tag, keep_sieve}
 use Rattle.kept_labels.specs.Edited.{Sized}

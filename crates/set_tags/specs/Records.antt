@@ -5,8 +5,9 @@ use Rattle.model.specs.Limits.{max_label_bytes}
 use Rattle.model.specs.Labels.{Tag, Labels, name_label, WellFormed}
 use Rattle.model.specs.Record.{encode_tags}
 use Rattle.model.specs.Edits.{Names, is_listed, clear_name_if, set_tags}
-use Rattle.model.specs.Laws.Edits.{clear_well}
-use Rattle.model.specs.Laws.SetTags.{walk_tags, set_tags_walk, set_tags_name}
+use Rattle.model.proofs.Laws.Edits.{clear_well}
+use Rattle.model.proofs.Laws.SetTags.{set_tags_walk, set_tags_name}
+use Rattle.model.specs.TagWalk.{walk_tags}
 use Rattle.record_tags.specs.Lenient.{labels_of}
 use Rattle.writing.specs.Written.{Put}
 use Rattle.set_tags.specs.declared.PutTags.{PutTags}

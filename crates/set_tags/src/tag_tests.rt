@@ -1,6 +1,6 @@
 // Which tags a join's edited record has: those set from a one-side series, the source, and the many side's that remain.
 ghost use Rattle.std.specs.Prelude.{◌≡◌};
-ghost use Rattle.model.specs.Laws.SetTags.{is_set, remains};
+ghost use Rattle.model.specs.TagWalk.{is_set, remains};
 ghost use Rattle.labels.specs.Names.{names_of};
 
 // Whether the tags of a label are set from the source.

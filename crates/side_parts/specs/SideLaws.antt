@@ -8,7 +8,7 @@ use Rattle.model.specs.Lists.{All}
 use Rattle.model.specs.Labels.{Labels}
 use Rattle.model.specs.Record.{encode}
 use Rattle.model.specs.Vector.{Series, Shape, labels_of_all, label_part, label_bytes, readings_of, series_of, GoodSeries}
-use Rattle.model.specs.Laws.Vector.{series_again}
+use Rattle.model.proofs.Laws.Vector.{series_again}
 use Rattle.record_tags.specs.Lenient.{labels_of, labels_encoded}
 use Rattle.side_parts.specs.Sides.{between, record_at, labels_from, labels_in, lent_series, row_at, ends, starts, Positions}
 

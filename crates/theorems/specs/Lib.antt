@@ -1,13 +1,2 @@
 pub mod Claims
-pub mod Laws
-pub mod Outcomes
-pub mod Dealing
-pub mod Partition
-pub mod Valid
-pub mod Aggregates
-pub mod Exports
-pub mod Prometheus
-pub mod Joins
-pub mod Comparisons
 pub mod Settled
-pub mod Examples

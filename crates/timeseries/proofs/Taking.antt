@@ -14,7 +14,7 @@ use borrow.Author.Tests.{le-leb, lt-leb, le-ltb, lt-ltb, leb-true, leb-false, eq
 use Rattle.model.specs.Limits.{sizes_length, max_start, max_step}
 use Rattle.model.specs.Vector.{Shape, Records, records, bad_record, records_in, series_of, with_readings}
 use Rattle.model.specs.Vector.{two_bytes_at, four_bytes_at, eight_bytes_at, shape_in, good_grid, take_vector}
-use Rattle.model.specs.Laws.Vector.{records_read, series_count_lem}
+use Rattle.model.proofs.Laws.Vector.{records_read, series_count_lem}
 use Rattle.timeseries.specs.record_walk.Walks as Walks
 use Rattle.timeseries.specs.record_walk.Walks.{whole, walk_answer, records_answer, WalkedInto}
 use Rattle.side_parts.specs.declared.Shape as Code

@@ -10,10 +10,10 @@ use Rattle.model.specs.Record.{encode}
 use Rattle.model.specs.Vector.{Shape, Vector, labels_of_all, label_bytes, TakenVector, vector, faulty, Records, records}
 use Rattle.model.specs.Vector.{bad_record, records_in, series_of, with_readings, with_array, good_grid, with_grid, with_sizes}
 use Rattle.model.specs.Vector.{two_bytes_at, shape_in, take_vector}
-use Rattle.model.specs.Laws.Booleans.{both_of}
-use Rattle.model.specs.Laws.Record.{decode_is}
-use Rattle.model.specs.Laws.Vector.{ReadAs, records_read, read_bytes, series_count_lem, series_labels, series_bytes}
-use Rattle.model.specs.Laws.Faults.{on_side, take-side}
+use Rattle.model.proofs.Laws.Booleans.{both_of}
+use Rattle.model.proofs.Laws.Record.{decode_is}
+use Rattle.model.proofs.Laws.Vector.{ReadAs, records_read, read_bytes, series_count_lem, series_labels, series_bytes}
+use Rattle.model.proofs.Laws.Faults.{on_side, take-side}
 use Rattle.side_parts.specs.Sides.{labels_in, lent_series, ends, starts, Positions}
 use Rattle.side_parts.specs.SideLaws.{starts_count, labels_starts, positions_starts}
 use Rattle.timeseries.specs.record_walk.Walks.{noted}

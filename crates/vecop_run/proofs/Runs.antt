@@ -10,7 +10,7 @@ use lib.Seq.{take-append_seam}
 use Rattle.model.specs.Vector.{Shape}
 use Rattle.semantics.specs.Call as Call
 use Rattle.semantics.specs.Call.{refused, answered, call}
-use Rattle.theorems.specs.Valid.{answers_are_valid}
+use Rattle.theorems.proofs.Valid.{answers_are_valid}
 use Rattle.answers.specs.Outcomes.{told, wanted, labels_after, readings_after, starting_with, Ran}
 use Rattle.answers.specs.declared.Told.{Told}
 use Rattle.answers.specs.declared.Outcome.{Outcome}

@@ -8,7 +8,7 @@ use Rattle.model.specs.Lists.{cases}
 use Rattle.model.specs.Labels.{Tag, Labels}
 use Rattle.model.specs.Vector.{Shape}
 use Rattle.model.specs.Record.{Decoded, decoded, cut, bad_key, decode, encode_field, encode_tags, encode}
-use Rattle.model.specs.Laws.Record.{decode_is}
+use Rattle.model.proofs.Laws.Record.{decode_is}
 use Rattle.model.specs.Numerals.{decimal}
 use Rattle.numerals.proofs.Digits.{digits_length}
 use Rattle.numerals.proofs.Counts.{decimal_most}

@@ -1,6 +1,6 @@
 -- `number_groups` meets its contract. Assumes nothing.
 use mathlib.Core.Path.{sym}
-use Rattle.model.specs.Laws.Lists.{front_long}
+use Rattle.model.proofs.Laws.Lists.{front_long}
 use borrow.Author.Rules.{rules}
 use Rattle.aggregate_vector.proofs.number_groups.Goals as goal
 

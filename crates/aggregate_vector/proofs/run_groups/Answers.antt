@@ -1,6 +1,6 @@
 -- `run_groups` meets its contract. Assumes nothing.
 use mathlib.Core.Path.{refl}
-use Rattle.model.specs.Laws.Lists.{front_long}
+use Rattle.model.proofs.Laws.Lists.{front_long}
 use Rattle.aggregate_vector.proofs.Stages.{side_few, room_held, keys_within, keys_front, keys_held, groups_ran}
 use Rattle.aggregate_vector.proofs.run_groups.Goals as goal
 

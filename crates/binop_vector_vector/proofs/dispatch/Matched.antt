@@ -10,7 +10,7 @@ use lib.ListN.{length, take, drop, length-drop}
 use lib.Seq.{take_all}
 use Rattle.operator.specs.Kinds.{Kind, arithmetic, comparison, set_rule, fallback, not_carried, kind_of}
 use Rattle.operator.specs.Operators.{joins_sets, is_logical_op}
-use Rattle.model.specs.Laws.Booleans.{never}
+use Rattle.model.proofs.Laws.Booleans.{never}
 use Rattle.model.specs.Query as Model
 use Rattle.model.specs.Query.{resets}
 use Rattle.model.specs.Vector.{Shape}

@@ -5,7 +5,7 @@ use mathlib.Core.Bool.{true, false}
 use mathlib.Core.List.{List}
 use Rattle.operator.specs.Kinds.{Kind, arithmetic, comparison, set_rule, fallback, not_carried, kind_of}
 use Rattle.operator.specs.Operators.{joins_sets, runs}
-use Rattle.model.specs.Laws.Booleans.{never}
+use Rattle.model.proofs.Laws.Booleans.{never}
 use Rattle.model.specs.Query as Model
 use Rattle.model.specs.Vector.{Series}
 use Rattle.plan.specs.Pairs.{pairs_outcome}

@@ -1,6 +1,6 @@
 -- `run` meets its contract. Assumes nothing.
 use mathlib.Core.Path.{refl}
-use Rattle.model.specs.Laws.Lists.{front_long}
+use Rattle.model.proofs.Laws.Lists.{front_long}
 use Rattle.binop_vector_vector.proofs.Stages.{side_few, run_held, left_within, right_within, left_front, right_front, sides_numbered}
 use Rattle.binop_vector_vector.proofs.run.Goals as goal
 

@@ -8,7 +8,7 @@ use lib.ListN.{length, get_or, take, drop, length-take, length-drop, drop_of_len
 use lib.Seq.{drop-cons, length-take-le}
 use Rattle.model.specs.Labels.{Labels}
 use Rattle.model.specs.Vector.{Series}
-use Rattle.model.specs.Laws.Vector.{series_count_lem, series_labels}
+use Rattle.model.proofs.Laws.Vector.{series_count_lem, series_labels}
 use Rattle.record_tags.specs.Lenient.{labels_of}
 use Rattle.side_parts.specs.Sides.{record_at, row_at, labels_in, lent_series, Positions}
 use Rattle.side_parts.specs.SideLaws.{labels_count, labels_at, record_within, row_at_lem, row_in}

@@ -11,7 +11,7 @@ use lib.ListN.{length, get_or, drop, drop_of_length-le}
 use lib.Seq.{drop-cons}
 use Rattle.model.specs.Labels.{Labels}
 use Rattle.model.specs.Query.{Matching}
-use Rattle.model.specs.Laws.Lists.{map_at}
+use Rattle.model.proofs.Laws.Lists.{map_at}
 use Rattle.labels.specs.Names.{names_of}
 use Rattle.record_tags.specs.Lenient.{labels_of}
 use Rattle.side_parts.specs.Sides.{record_at, labels_in, Positions}

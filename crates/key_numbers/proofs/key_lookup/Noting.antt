@@ -15,7 +15,7 @@ use borrow.Author.Tests.{eqb-true, eqb-false, lt-ltb, le-ltb, ltb-true, ltb-fals
 use Rattle.model.specs.Lists.{cases}
 use Rattle.model.specs.Labels.{Labels}
 use Rattle.model.specs.Query.{Matching}
-use Rattle.model.specs.Laws.Lists.{map_append, map_at}
+use Rattle.model.proofs.Laws.Lists.{map_append, map_at}
 use Rattle.labels.specs.Names.{names_of}
 use Rattle.record_tags.specs.Lenient.{labels_of}
 use Rattle.side_parts.specs.Sides.{record_at, labels_in}

@@ -9,10 +9,10 @@ use Rattle.model.specs.Lists.{cases}
 use Rattle.model.specs.Labels.{Labels, name_label, same_bytes, same_tags}
 use Rattle.model.specs.Edits.{Names}
 use Rattle.model.specs.Query.{Matching, key_of}
-use Rattle.model.specs.Laws.Booleans.{never, both_of}
-use Rattle.model.specs.Laws.Lists.{map_at}
-use Rattle.model.specs.Laws.Order.{same_is, same_refl}
-use Rattle.model.specs.Laws.Tags.{same_tags_is, same_tags_refl, is_same_tags}
+use Rattle.model.proofs.Laws.Booleans.{never, both_of}
+use Rattle.model.proofs.Laws.Lists.{map_at}
+use Rattle.model.proofs.Laws.Order.{same_is, same_refl}
+use Rattle.model.proofs.Laws.Tags.{same_tags_is, same_tags_refl, is_same_tags}
 use Rattle.chosen_tags.specs.Keys.{hash_bytes, same_hash}
 use Rattle.key_numbers.specs.key_lookup.Firsts.{first_where, first_holds, first_found, first_take, first_left}
 use Rattle.key_numbers.specs.key_lookup.Keys.{named_key, same_keys, first_place, numbers, key_hash}

@@ -1,7 +1,7 @@
 -- `number_keys` meets its contract. Assumes nothing.
 use borrow.Author.Rules.{rules}
 use mathlib.Core.Path.{sym}
-use Rattle.model.specs.Laws.Lists.{front_long}
+use Rattle.model.proofs.Laws.Lists.{front_long}
 use Rattle.keyed_sides.proofs.number_keys.Goals as goal
 
 pub slice_bounds-number_hashed-end : goal.slice_bounds-number_hashed-end

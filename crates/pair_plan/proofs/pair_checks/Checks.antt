@@ -9,9 +9,9 @@ use native.Mathlib.Omega.{arith}
 use lib.ListN.{length, get_or, take, drop, length-append, length-drop, drop_of_length-le}
 use lib.Seq.{drop-cons, length-take-le, take_at}
 use Rattle.model.specs.Row.{overwritten, merged}
-use Rattle.model.specs.Laws.Row.{overwritten_wide}
+use Rattle.model.proofs.Laws.Row.{overwritten_wide}
 use Rattle.model.specs.Query as Model
-use Rattle.model.specs.Laws.Booleans.{both_of}
+use Rattle.model.proofs.Laws.Booleans.{both_of}
 use Rattle.side_parts.specs.Lent.{RowsHeld, BothRowsHeld, row_sides, Sides}
 use Rattle.end_codes.specs.Codes.{left_first, left_last, right_first, right_last}
 use Rattle.key_places.specs.Two.{are_two, both_two, keys_between, two_order, two_between, LastBetween, third_between}

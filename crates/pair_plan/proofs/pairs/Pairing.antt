@@ -7,7 +7,7 @@ use native.Mathlib.Omega.{arith}
 use lib.Dec.{eqb, ltb}
 use lib.ListN.{length}
 use borrow.Author.Tests.{eq-eqb, ne_eqb, eqb-true, ltb-true}
-use Rattle.model.specs.Laws.Booleans.{both_of}
+use Rattle.model.proofs.Laws.Booleans.{both_of}
 use Rattle.end_codes.specs.Codes.{left_first, right_first}
 use Rattle.key_ends.specs.Ends.{CodeOf, left_first_lem, right_first_lem}
 use Rattle.plan.specs.Keys.{dropped, first_of}

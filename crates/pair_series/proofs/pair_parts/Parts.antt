@@ -7,7 +7,7 @@ use lib.ListN.{length, take, drop, length-append, length-drop, drop_of_length-le
 use lib.Seq.{length-take-le, take_all, take-add, take_at, drop_at, drop-drop}
 use borrow.Rule.Slice.PartMut.{put_mid}
 use Rattle.model.specs.Row.{zip_with, overwritten}
-use Rattle.model.specs.Laws.Row.{overwritten_wide, zip_wide}
+use Rattle.model.proofs.Laws.Row.{overwritten_wide, zip_wide}
 use Rattle.answers.specs.Outcomes.{starting_with}
 use Rattle.pair_series.specs.pair_parts.Parts.{PartEnd, PartsFit}
 

@@ -6,7 +6,7 @@ use mathlib.Core.List.{List, [], ◌∷◌}
 use native.Mathlib.Omega.{arith}
 use Rattle.std.proofs.Math.ListN.{length, get_or}
 use Rattle.model.specs.Lists.{cases}
-use Rattle.model.specs.Laws.Booleans.{never}
+use Rattle.model.proofs.Laws.Booleans.{never}
 use Rattle.plan.specs.Keys.{first_of, last_from, last_of, KeyEnds}
 
 module _ (k : ℕ) where

@@ -10,9 +10,9 @@ use native.Mathlib.Omega.{arith}
 use Rattle.std.proofs.Math.ListN.{length, get_or}
 use Rattle.operator.specs.Kinds.{Arithmetic, Comparison, arithmetic, comparison, kind_of}
 use Rattle.model.specs.Lists.{cases, keep, gather}
-use Rattle.model.specs.Laws.Lists.{gather_append, gather_map, keep_map, map_append}
-use Rattle.model.specs.Laws.Booleans.{never, not_true, not_false, both_of}
-use Rattle.model.specs.Laws.Tags.{same_tags_is, is_same_tags}
+use Rattle.model.proofs.Laws.Lists.{gather_append, gather_map, keep_map, map_append}
+use Rattle.model.proofs.Laws.Booleans.{never, not_true, not_false, both_of}
+use Rattle.model.proofs.Laws.Tags.{same_tags_is, is_same_tags}
 use Rattle.model.specs.Labels.{Labels, same_tags}
 use Rattle.model.specs.Query.{Query, same_key, group, Side, left, right}
 use Rattle.model.specs.Vector.{Series}

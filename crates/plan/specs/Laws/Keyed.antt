@@ -2,8 +2,8 @@
 use Rattle.std.specs.Prelude.{ℕ, zero, suc, ◌+◌, ◌≡◌, refl, Bool, true, false, not, ◌&&◌, List, [], ◌∷◌, eqb}
 use Rattle.std.proofs.Common.{sym, ap, ◌∙◌, append-nil, arith}
 use Rattle.model.specs.Lists.{cases, keep}
-use Rattle.model.specs.Laws.Lists.{keep_append, keep_cong, All-each}
-use Rattle.model.specs.Laws.Booleans.{and_true}
+use Rattle.model.proofs.Laws.Lists.{keep_append, keep_cong, All-each}
+use Rattle.model.proofs.Laws.Booleans.{and_true}
 use Rattle.model.specs.Query.{Query, Side, left, right, same_key}
 use Rattle.model.specs.Vector.{Series}
 use Rattle.semantics.specs.Laws.Places.{on_same}

@@ -12,7 +12,7 @@ use Rattle.std.proofs.Math.ListN.{length}
 use Rattle.std.proofs.Math.Seq.{take-append_seam, drop-append_seam}
 use Rattle.model.specs.Lists.{cases, All}
 use Rattle.model.specs.Row.{overlaps, overwritten, merged}
-use Rattle.model.specs.Laws.Row.{overwritten_wide}
+use Rattle.model.proofs.Laws.Row.{overwritten_wide}
 use Rattle.model.specs.Labels.{Labels}
 use Rattle.model.specs.Query.{Side}
 use Rattle.model.specs.Vector.{Series, readings_of}

@@ -5,8 +5,8 @@ use Rattle.std.proofs.Math.Path.{refl, ap}
 use Rattle.std.proofs.Common.{sym, ◌∙◌, arith, ne_eqb}
 use mathlib.Core.List.{List, [], ◌∷◌}
 use Rattle.model.specs.Lists.{cases}
-use Rattle.model.specs.Laws.Tags.{same_tags_is, is_same_tags}
-use Rattle.model.specs.Laws.Booleans.{never, not_true, and_true, and_false}
+use Rattle.model.proofs.Laws.Tags.{same_tags_is, is_same_tags}
+use Rattle.model.proofs.Laws.Booleans.{never, not_true, and_true, and_false}
 use Rattle.model.specs.Row.{only_missing}
 use Rattle.model.specs.Labels.{Labels, same_tags}
 use Rattle.model.specs.Query.{Query, same_key, key_of}

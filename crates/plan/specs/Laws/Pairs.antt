@@ -9,8 +9,8 @@ use mathlib.Core.List.{List, [], ◌∷◌, ◌++◌, map, append-nil}
 use Rattle.std.proofs.Math.ListN.{get_or}
 use Rattle.operator.specs.Kinds.{Arithmetic, Comparison, arithmetic, comparison, kind_of}
 use Rattle.model.specs.Lists.{cases, keep, gather}
-use Rattle.model.specs.Laws.Lists.{gather_append}
-use Rattle.model.specs.Laws.Booleans.{not_true, not_false}
+use Rattle.model.proofs.Laws.Lists.{gather_append}
+use Rattle.model.proofs.Laws.Booleans.{not_true, not_false}
 use Rattle.model.specs.Labels.{Labels}
 use Rattle.model.specs.Query.{Query, same_key, one_to_one, Side, left, right}
 use Rattle.model.specs.Vector.{Series, Shape}

@@ -12,8 +12,8 @@ use Rattle.std.proofs.Math.Seq.{get_or-append-add}
 use Rattle.operator.specs.Kinds.{SetRule, where_found, where_none, filled, Kind, arithmetic, comparison, set_rule, fallback, not_carried, kind_of}
 use Rattle.operator.specs.Operators.{is_logical_op, joins_sets}
 use Rattle.model.specs.Lists.{cases, All, is_empty, gather}
-use Rattle.model.specs.Laws.Booleans.{never}
-use Rattle.model.specs.Laws.Lists.{gather_append, map_append}
+use Rattle.model.proofs.Laws.Booleans.{never}
+use Rattle.model.proofs.Laws.Lists.{gather_append, map_append}
 use Rattle.model.specs.Reading.{missing, no_reading}
 use Rattle.model.specs.Row.{only_missing}
 use Rattle.model.specs.Query.{Query, same_key, Side, left, right}

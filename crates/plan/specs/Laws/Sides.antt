@@ -4,7 +4,7 @@ use Rattle.std.proofs.Common.{sym, ap, ◌∙◌, arith, length-drop, length-tak
 use Rattle.model.specs.Lists.{All}
 use Rattle.model.specs.Labels.{Labels}
 use Rattle.model.specs.Vector.{Series, series_of}
-use Rattle.model.specs.Laws.Vector.{series_count_lem, series_labels, series_readings}
+use Rattle.model.proofs.Laws.Vector.{series_count_lem, series_labels, series_readings}
 use Rattle.side_parts.specs.SideLaws.{labels_count}
 use Rattle.side_parts.specs.Lent.{Side, Held, side_labels, side_series}
 use Rattle.plan.specs.Laws.Common.{labels_of_side}

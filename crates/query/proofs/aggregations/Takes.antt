@@ -11,7 +11,7 @@ use borrow.Author.Tests.{le-leb, lt-leb, eq-eqb, ne_eqb}
 use Rattle.model.specs.Lists.{is_empty}
 use Rattle.model.specs.Edits.{Names}
 use Rattle.model.specs.Query.{Listed, not_listed, listed, list_in, on_listed}
-use Rattle.model.specs.Laws.Booleans.{never}
+use Rattle.model.proofs.Laws.Booleans.{never}
 use Rattle.model.specs.Aggregate as Aggregates
 use Rattle.model.specs.Aggregation as Model
 use Rattle.labels.specs.Names.{names_of, names_listed}

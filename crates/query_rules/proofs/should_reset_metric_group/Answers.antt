@@ -4,7 +4,7 @@ use mathlib.Core.Bool.{Bool, true, false}
 use Rattle.operator.specs.Kinds.{Kind, arithmetic, comparison, set_rule, fallback, not_carried, kind_of}
 use Rattle.operator.specs.Operators.{compares, joins_sets}
 use Rattle.model.specs.Query.{kind_resets}
-use Rattle.model.specs.Laws.Booleans.{and_true}
+use Rattle.model.proofs.Laws.Booleans.{and_true}
 use Rattle.query_rules.proofs.should_reset_metric_group.Goals as goal
 
 kept : (k : Kind) (keep bool : Bool) → keep ≡ true → false ≡ kind_resets k keep bool

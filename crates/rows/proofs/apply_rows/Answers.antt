@@ -3,7 +3,7 @@ use mathlib.Core.Path.{◌∙◌}
 use Rattle.model.specs.Reading.{scalar_op}
 use Rattle.rows.specs.Nothing.{nothing}
 use Rattle.rows.proofs.Dispatch.{no_scalar}
-use Rattle.model.specs.Laws.Zipping.{same_zip}
+use Rattle.model.proofs.Laws.Zipping.{same_zip}
 use Rattle.rows.proofs.apply_rows.Goals as goal
 
 pub enum_told-1 : goal.enum_told-1

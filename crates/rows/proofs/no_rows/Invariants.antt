@@ -2,7 +2,7 @@
 use Prim.Native.Nat.{◌-◌}
 use lib.ListN.{length}
 use Rattle.rows.specs.Nothing.{nothing}
-use Rattle.model.specs.Laws.Zipping.{Written}
+use Rattle.model.proofs.Laws.Zipping.{Written}
 use Rattle.rows.proofs.no_rows.Given as goal
 
 abbrev pub invariant-loop-i : goal.invariant-loop-i

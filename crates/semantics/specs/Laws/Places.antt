@@ -3,7 +3,7 @@ use Rattle.std.specs.Prelude.{ℕ, zero, suc, ◌+◌, ◌<◌, ◌≡◌, refl,
 use Rattle.std.proofs.Common.{ap, ◌∙◌, append-nil, arith}
 use Rattle.model.specs.Query.{Side, left, right}
 use Rattle.model.specs.Vector.{Series}
-use Rattle.model.specs.Laws.Lists.{keep_append}
+use Rattle.model.proofs.Laws.Lists.{keep_append}
 use Rattle.semantics.specs.Places.{Placed, numbered, placed}
 use Rattle.semantics.specs.Rules.{on_side, other, of_side}
 

@@ -8,7 +8,7 @@ use lib.ListN.{length, take}
 use borrow.Author.Tests.{eq-eqb, ne_eqb}
 use Rattle.operator.specs.Kinds.{SetRule}
 use Rattle.model.specs.Row.{only_missing}
-use Rattle.model.specs.Laws.Booleans.{and_false}
+use Rattle.model.proofs.Laws.Booleans.{and_false}
 use Rattle.plan.specs.Sets.{set_row, needs_match, drops_empty, left_answers}
 use Rattle.end_codes.specs.Codes.{side_first, side_last}
 use Rattle.index_lists.specs.Places.{NotedAll, coded_met}

@@ -11,8 +11,8 @@ use lib.Seq.{drop-cons, sets, length-sets}
 use borrow.Author.Tests.{lt-ltb, le-ltb}
 use Rattle.model.specs.Limits.{max_series}
 use Rattle.model.specs.Lists.{cases}
-use Rattle.model.specs.Laws.Booleans.{never}
-use Rattle.model.specs.Laws.Lists.{sets_append, map_append}
+use Rattle.model.proofs.Laws.Booleans.{never}
+use Rattle.model.proofs.Laws.Lists.{sets_append, map_append}
 use Rattle.side_parts.specs.Sides.{row_at}
 use Rattle.side_parts.specs.Lent.{Sides, RowsHeld}
 use Rattle.plan.specs.Keys.{first_of}

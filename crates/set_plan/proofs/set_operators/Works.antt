@@ -11,7 +11,7 @@ use Rattle.operator.specs.Kinds.{Kind, arithmetic, comparison, set_rule, fallbac
 use Rattle.operator.specs.Kinds.{where_found, where_none, filled}
 use Rattle.operator.specs.contracts.Operator.{the_type}
 use Rattle.operator.proofs.Cases.{by_numbers}
-use Rattle.model.specs.Laws.Booleans.{never_so}
+use Rattle.model.proofs.Laws.Booleans.{never_so}
 use Rattle.plan.specs.Sets.{SetWork, set_work, work_by}
 
 module _ (op : Operator) (scalar none : Bool) (w : SetWork) where

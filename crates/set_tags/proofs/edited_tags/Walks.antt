@@ -8,8 +8,8 @@ use lib.ListN.{length, take, drop}
 use Rattle.model.specs.Lists.{cases}
 use Rattle.model.specs.Labels.{same_bytes, below}
 use Rattle.model.specs.Edits.{Names}
-use Rattle.model.specs.Laws.SetTags.{is_set, remains, cons_if}
-use Rattle.model.specs.Laws.SetTags.{walk_none, walk_source, walk_many, walk_both, walk_lower, walk_higher}
+use Rattle.model.specs.TagWalk.{is_set, remains, cons_if}
+use Rattle.model.proofs.Laws.SetTags.{walk_none, walk_source, walk_many, walk_both, walk_lower, walk_higher}
 use Rattle.fields.proofs.Fields.{more}
 use Rattle.record_tags.specs.Lenient.{tags_up_to}
 use Rattle.record_tags.specs.Cursors.{TagsOf, tag_at, Standing, NextAt, every}

@@ -4,7 +4,7 @@ use mathlib.Core.Bool.{Bool, true, false, not}
 use mathlib.Core.List.{List}
 use Prim.Native.Nat.{ℕ}
 use Rattle.model.specs.Edits.{Names, is_listed, is_star}
-use Rattle.model.specs.Laws.SetTags.{is_set, remains}
+use Rattle.model.specs.TagWalk.{is_set, remains}
 
 module _ (join skip : Names) (k : List ℕ) (r : Bool) (hr : r ≡ is_listed skip k) where
   pub skipped_unset : r ≡ true → false ≡ is_set join skip k

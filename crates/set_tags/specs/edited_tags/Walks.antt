@@ -2,7 +2,7 @@
 use Rattle.std.specs.Prelude.{ℕ, zero, suc, ◌+◌, ◌-◌, ◌≤◌, ◌<◌, ◌≡◌, Bool, true, false, cond, List, [], ◌∷◌, length, take, drop}
 use Rattle.model.specs.Labels.{Tag, same_bytes, below}
 use Rattle.model.specs.Edits.{Names}
-use Rattle.model.specs.Laws.SetTags.{is_set, remains, walk_tags}
+use Rattle.model.specs.TagWalk.{is_set, remains, walk_tags}
 use Rattle.record_tags.specs.Lenient.{tags_up_to, labels_of}
 use Rattle.record_tags.specs.Cursors.{tags_place, encode_tag, next_tag, every}
 use Rattle.record_tags.specs.declared.Tags.{Tags}

@@ -1,6 +1,6 @@
 -- `try_lead` meets its contract. Assumes nothing.
 use borrow.Author.Rules.{rules}
-use Rattle.model.specs.Laws.Lists.{front_long}
+use Rattle.model.proofs.Laws.Lists.{front_long}
 use Rattle.join_plan.proofs.join_leads.Checking.{tried_alone, front_held, front_inside, tried_merges}
 use Rattle.join_plan.proofs.join_leads.try_lead.Goals as goal
 

@@ -1,5 +1,5 @@
 -- `place_leads` meets its contract. Assumes nothing.
-use Rattle.model.specs.Laws.Lists.{front_long}
+use Rattle.model.proofs.Laws.Lists.{front_long}
 use Rattle.join_plan.proofs.place_plans.Places.{unmarked_leads, ends_few, key_ends, key_order_lem, key_last}
 use Rattle.join_plan.proofs.place_plans.Places.{last_fits, front_there, front_first, front_room, marked_leads}
 use Rattle.join_plan.proofs.place_plans.Places.{first_there, second_there}

@@ -1,5 +1,5 @@
 -- `plan_place` meets its contract. Assumes nothing.
-use Rattle.model.specs.Laws.Lists.{front_long}
+use Rattle.model.proofs.Laws.Lists.{front_long}
 use Rattle.join_plan.proofs.place_plans.Places.{none_planned, row_fits, one_planned, end_fits, end_inside}
 use Rattle.join_plan.proofs.place_plans.Places.{lasts_noted, first_inside, lasts_room, leads_fit, leads_held}
 use Rattle.join_plan.proofs.place_plans.Places.{several_planned}

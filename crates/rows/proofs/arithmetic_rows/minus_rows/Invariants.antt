@@ -3,7 +3,7 @@ use Prim.Native.Nat.{◌-◌}
 use lib.ListN.{length}
 use Rattle.operator.specs.Kinds.{difference}
 use Rattle.model.specs.Reading.{calculated}
-use Rattle.model.specs.Laws.Zipping.{Written}
+use Rattle.model.proofs.Laws.Zipping.{Written}
 use Rattle.rows.proofs.arithmetic_rows.minus_rows.Given as goal
 
 abbrev pub invariant-loop-i : goal.invariant-loop-i

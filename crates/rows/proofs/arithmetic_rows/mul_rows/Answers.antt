@@ -1,6 +1,6 @@
 -- `mul_rows` meets its contract. Assumes nothing.
 use native.Mathlib.Omega.{arith}
-use Rattle.model.specs.Laws.Zipping.{starts, turn, ends}
+use Rattle.model.proofs.Laws.Zipping.{starts, turn, ends}
 use Rattle.rows.proofs.arithmetic_rows.mul_rows.Goals as goal
 
 pub loop-i-init : goal.loop-i-init

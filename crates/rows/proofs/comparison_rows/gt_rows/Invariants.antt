@@ -3,7 +3,7 @@ use Prim.Native.Nat.{◌-◌}
 use lib.ListN.{length}
 use Rattle.operator.specs.Kinds.{greater}
 use Rattle.model.specs.Reading.{compared}
-use Rattle.model.specs.Laws.Zipping.{Written}
+use Rattle.model.proofs.Laws.Zipping.{Written}
 use Rattle.rows.proofs.comparison_rows.gt_rows.Given as goal
 
 abbrev pub invariant-loop-i : goal.invariant-loop-i

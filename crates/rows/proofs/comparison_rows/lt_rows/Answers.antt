@@ -1,6 +1,6 @@
 -- `lt_rows` meets its contract. Assumes nothing.
 use native.Mathlib.Omega.{arith}
-use Rattle.model.specs.Laws.Zipping.{starts, turn, ends}
+use Rattle.model.proofs.Laws.Zipping.{starts, turn, ends}
 use Rattle.rows.proofs.comparison_rows.lt_rows.Goals as goal
 
 pub loop-i-init : goal.loop-i-init

@@ -1,6 +1,6 @@
 -- `neq_rows` meets its contract. Assumes nothing.
 use native.Mathlib.Omega.{arith}
-use Rattle.model.specs.Laws.Zipping.{starts, turn, ends}
+use Rattle.model.proofs.Laws.Zipping.{starts, turn, ends}
 use Rattle.rows.proofs.equality_rows.neq_rows.Goals as goal
 
 pub loop-i-init : goal.loop-i-init

@@ -3,7 +3,7 @@ use Prim.Native.Nat.{◌-◌}
 use lib.ListN.{length}
 use Rattle.operator.specs.Kinds.{where_none}
 use Rattle.set_series.specs.set_points.Points.{on_reading}
-use Rattle.model.specs.Laws.Zipping.{Written}
+use Rattle.model.proofs.Laws.Zipping.{Written}
 use Rattle.set_series.proofs.set_rows.if_not_rows.Given as goal
 
 abbrev pub invariant-loop-i : goal.invariant-loop-i

@@ -1,0 +1,11 @@
+pub mod Laws
+pub mod Outcomes
+pub mod Dealing
+pub mod Partition
+pub mod Valid
+pub mod Aggregates
+pub mod Exports
+pub mod Prometheus
+pub mod Joins
+pub mod Comparisons
+pub mod Examples
