@@ -1,4 +1,5 @@
 -- `run_groups` meets its contract. Assumes nothing.
+use Rattle.std.proofs.Common.{replicate}
 use mathlib.Core.Path.{refl}
 use Rattle.model.proofs.Laws.Lists.{front_long}
 use Rattle.aggregate_vector.proofs.Stages.{side_few, room_held, keys_within, keys_front, keys_held, groups_ran}
@@ -11,7 +12,7 @@ pub slice_bounds-number_groups-end : goal.slice_bounds-number_groups-end
 slice_bounds-number_groups-end c = front_long _ _ (search side_few)
 
 pub number_groups-requires-clause-positions : goal.number_groups-requires-clause-positions
-number_groups-requires-clause-positions c = (room_held _ _ _ _ c.requires _ refl).0
+number_groups-requires-clause-positions c = (room_held _ _ _ _ c.requires (replicate 512 0) refl).0
 
 pub number_groups-requires-clause-at_len : goal.number_groups-requires-clause-at_len
 number_groups-requires-clause-at_len c = (room_held _ _ _ _ c.requires _ refl).1.0
