@@ -1,0 +1,6 @@
+-- `nosingcatnip_exec_binop` meets its contract. Assumes nothing.
+use Rattle.nosingcatnip.proofs.Reports.{reported}
+use Rattle.nosingcatnip.proofs.nosingcatnip_exec_binop.Goals as goal
+
+pub returns : goal.returns
+returns c = search reported
