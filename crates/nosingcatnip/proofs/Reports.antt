@@ -1,7 +1,7 @@
 -- What the export leaves is what the call is to come to. Assumes nothing.
 use Prim.Native.Nat.{ℕ}
 use mathlib.Core.Path.{◌≡◌, sym, ap, ◌∙◌}
-use mathlib.Core.List.{List, [], ◌∷◌}
+use mathlib.Core.List.{List}
 use lib.Seq.{sets}
 use Rattle.semantics.specs.Call as Call
 use Rattle.semantics.specs.Exposition as Exposition
