@@ -42,8 +42,5 @@ pub(crate) fn op_div(left: u64, right: u64) -> u64
 pub(crate) fn op_mod(left: u64, right: u64) -> u64
     ensures { result ≡ calculated remainder left right }
 {
-    if reading::gaps(left, right) > 0 {
-        return reading::MISSING;
-    }
-    reading::written(f64::from_bits(left) % f64::from_bits(right))
+    remainder::remainder(left, right)
 }

@@ -1,0 +1,5 @@
+pub mod Values
+pub mod Parts
+pub mod Powers
+pub mod Scales
+pub mod Special
