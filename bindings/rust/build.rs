@@ -15,6 +15,4 @@ fn main() {
     println!("cargo:rustc-env=NOSINGCATNIP_LIB={}", archive.display());
     println!("cargo:rustc-link-search=native={}", folder.display());
     println!("cargo:rustc-link-lib=static=nosingcatnip");
-    // `%` on binary64 is C's fmod.
-    println!("cargo:rustc-link-lib=m");
 }
