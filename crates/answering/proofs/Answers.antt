@@ -1,14 +1,13 @@
 -- A rule run: its plan's clash, or the answer of its rows as they fit. Assumes nothing.
-use Prim.Native.Nat.{ℕ, ◌+◌, ◌*◌, ◌≤◌, ◌<◌}
+use Prim.Native.Nat.{ℕ, ◌*◌, ◌≤◌, ◌<◌}
 use mathlib.Core.Path.{◌≡◌, refl, sym, ap, ◌∙◌}
 use mathlib.Core.Bool.{false}
 use mathlib.Core.List.{List, [], map}
 use native.Mathlib.Omega.{arith}
 use lib.ListN.{length, get_or, take}
 use lib.Seq.{length-sets, length-take-le}
-use Rattle.model.specs.Limits.{max_series, max_points}
+use Rattle.model.specs.Limits.{max_series}
 use Rattle.model.specs.Lists.{gather}
-use Rattle.model.specs.Labels.{Labels}
 use Rattle.model.specs.Vector.{Series}
 use Rattle.semantics.specs.Call.{fit}
 use Rattle.side_parts.specs.Lent.{Side, Sides, rows_only, in_code, of_points, BothHeld, BothFormed, BothRowsHeld}

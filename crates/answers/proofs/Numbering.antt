@@ -5,9 +5,7 @@ use mathlib.Core.List.{List, [], ◌∷◌, map}
 use native.Mathlib.Omega.{arith}
 use lib.ListN.{length, get_or, drop, length-drop}
 use lib.Seq.{drop-cons}
-use Rattle.model.specs.Lists.{gather}
 use Rattle.model.specs.Labels.{Labels}
-use Rattle.model.specs.Record.{encode}
 use Rattle.model.specs.Vector.{Series}
 use Rattle.answers.specs.declared.Tally.{Tally}
 use Rattle.answers.specs.Tallies.{some_wide, records_of, TallyOf}

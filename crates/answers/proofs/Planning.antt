@@ -1,11 +1,10 @@
 -- A plan told and carried out: its clash, or the answer of its codes. Assumes nothing.
-use Prim.Native.Nat.{ℕ, zero, suc, ◌+◌, ◌≤◌, ◌<◌}
-use mathlib.Core.Path.{◌≡◌, refl, sym, ap, ◌∙◌}
+use Prim.Native.Nat.{ℕ, ◌+◌, ◌≤◌, ◌<◌}
+use mathlib.Core.Path.{◌≡◌, refl, sym, ap}
 use mathlib.Core.Option.{Option, none, some}
-use mathlib.Core.List.{List, [], ◌∷◌, map}
-use native.Mathlib.Nat.{zero-add}
+use mathlib.Core.List.{List, map}
 use native.Mathlib.Omega.{arith}
-use lib.ListN.{length, get_or, take, drop, length-map}
+use lib.ListN.{length, take, drop}
 use lib.Seq.{sets, sets-eq, take_at}
 use Rattle.model.specs.Limits.{max_series}
 use Rattle.model.specs.Query.{left, right}
@@ -18,7 +17,7 @@ use Rattle.answers.specs.declared.Outcome.TheVariants as Out
 use Rattle.answers.specs.declared.Planned.{Planned}
 use Rattle.answers.specs.declared.Planned.TheVariants as P
 use Rattle.answers.specs.Outcomes.{Ran}
-use Rattle.answers.specs.Plans.{Plan, rows, clashes, duplicate, wanted_plan, noted_by, PlannedAs, up_from, up_to}
+use Rattle.answers.specs.Plans.{Plan, rows, clashes, duplicate, wanted_plan, PlannedAs}
 use Rattle.answers.proofs.Concluding.{ran_left_twice, ran_right_twice, ran_without_clash, ran_too_many}
 
 clash_told : (clash : Option Duplicate) (codes : List ℕ) (d : Duplicate) → clashes d ≡ wanted_plan clash codes → clash ≡ some d

@@ -1,14 +1,13 @@
 -- Rows of an answer, each written into its own part of the readings: row r from r times p on. Assumes nothing.
 use Prim.Native.Nat.{ℕ, suc, ◌+◌, ◌-◌, ◌*◌, ◌≤◌, ◌<◌}
-use mathlib.Core.Path.{◌≡◌, refl, sym, ap, ◌∙◌}
-use mathlib.Core.List.{List, [], ◌∷◌, ◌++◌, append-nil}
+use mathlib.Core.Path.{◌≡◌, sym, ap, ◌∙◌}
+use mathlib.Core.List.{List, [], ◌∷◌}
 use native.Mathlib.Nat.{suc-mul, zero-mul, mul-le-mul}
 use native.Mathlib.Numerals.{add-one}
 use native.Mathlib.Omega.{arith}
 use mir.Syntax.{w64}
 use mir.Val.{Fits}
-use lib.ListN.{length, get_or, take, drop, set, length-append, length-take, length-drop, length-set, drop_of_length-le}
-use lib.Seq.{drop-cons, take-suc-set, append_snoc, take_all}
+use lib.ListN.{length, get_or, take, drop, length-append, length-take, length-drop}
 use borrow.Rule.Slice.PartMut.{put_mid, Post-is}
 use Rattle.model.specs.Limits.{max_series, max_points}
 use Rattle.model.specs.Lists.{gather}

@@ -1,6 +1,6 @@
 -- What each stage of an export comes to. Assumes nothing.
 use Prim.Native.Nat.{ℕ, ◌+◌, ◌-◌, ◌≤◌, ◌<◌}
-use mathlib.Core.Path.{◌≡◌, refl, sym, ap, ◌∙◌}
+use mathlib.Core.Path.{◌≡◌, refl, ap, ◌∙◌}
 use mathlib.Core.List.{List}
 use native.Mathlib.Omega.{arith}
 use native.Mathlib.Nat.{zero-add}
@@ -8,9 +8,9 @@ use lib.ListN.{length, take, drop}
 use borrow.Author.Tests.{lt-ltb, le-ltb}
 use Rattle.model.specs.Limits.{sizes_length}
 use Rattle.model.specs.Vector.{Shape, Vector, take_vector}
-use Rattle.exposition.specs.Faults.{Fault, first_fault}
+use Rattle.exposition.specs.Faults.{first_fault}
 use Rattle.exposition.specs.Text.{series_text}
-use Rattle.semantics.specs.Exposition.{fitted, judged, export_vector, export_taken, export}
+use Rattle.semantics.specs.Exposition.{fitted, export_vector, export_taken, export}
 use Rattle.writing.specs.Written.{written, Put}
 use Rattle.writing.specs.Measured.{Measured}
 use Rattle.timeseries.specs.declared.Taken.{Taken}

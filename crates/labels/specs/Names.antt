@@ -5,7 +5,8 @@ use Rattle.model.specs.Record.{read_field, on_field}
 use Rattle.model.specs.Edits.{Names}
 use Rattle.model.specs.Query.{listed, list_in}
 use Rattle.model.proofs.Laws.Record.{read_field_lem}
-use Rattle.model.proofs.Laws.Query.{encode_names, encode_list, list_is}
+use Rattle.model.proofs.Laws.Query.{list_is}
+use Rattle.model.specs.Encoded.{encode_names, encode_list}
 
 -- the first n labels; a label that is cut ends them
 unfoldable pub names_up_to : ℕ → List ℕ → Names

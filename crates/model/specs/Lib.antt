@@ -11,5 +11,6 @@ pub mod Query
 pub mod Vector
 pub mod Aggregate
 pub mod Aggregation
+pub mod Encoded
 pub mod Computing
 pub mod Examples

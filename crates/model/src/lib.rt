@@ -1,2 +1,2 @@
-// Definitions and their laws, in specs/. No code.
+// Definitions, in specs/, and their laws, in proofs/. No code.
 #![tactic(auto)]

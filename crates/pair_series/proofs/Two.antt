@@ -6,7 +6,7 @@ use mathlib.Core.List.{List}
 use native.Mathlib.Omega.{arith}
 use lib.ListN.{length, get_or}
 use borrow.Author.Tests.{lt-leb}
-use Rattle.model.specs.Row.{zip_with, overwritten}
+use Rattle.model.specs.Row.{overwritten}
 use Rattle.side_parts.specs.Sides.{row_at}
 use Rattle.side_parts.specs.Lent.{RowsHeld, BothRowsHeld, Sides}
 use Rattle.end_codes.specs.Codes.{left_first, left_last, right_first, right_last}

@@ -17,7 +17,6 @@ use Rattle.operator.specs.Operators.{operators, nth, operator_of, coded, coded_o
 use Rattle.query.specs.operator_table.Table as Table
 use Rattle.query.specs.operator_table.Table.{table, unlisted, table_row, Claims, claimed, agrees}
 use Rattle.model.specs.Limits.{max_allowance}
-use Rattle.model.specs.Lists.{is_empty}
 use Rattle.model.specs.Edits.{Names}
 use Rattle.model.specs.Query as Model
 use Rattle.labels.specs.declared.Matching.{Matching}

@@ -1,12 +1,12 @@
 -- The outcomes of an export, each under its condition: claimed in Claims.Exports. Assumes nothing.
-use Rattle.std.specs.Prelude.{ℕ, suc, ◌+◌, ◌≤◌, ◌<◌, ◌≡◌, refl, Bool, true, false, cond, List, [], ◌∷◌, ◌++◌, ltb, eqb, length}
-use Rattle.std.proofs.Common.{sym, ◌∙◌, arith, zero-add, ltb-true, ltb-false, lt-ltb, le-ltb}
+use Rattle.std.specs.Prelude.{ℕ, suc, ◌+◌, ◌≡◌, refl, true, false, List, [], ◌∷◌, ◌++◌, ltb, length}
+use Rattle.std.proofs.Common.{◌∙◌, arith, zero-add, ltb-true, ltb-false, lt-ltb, le-ltb}
 use Rattle.std.proofs.Math.Path.{ap}
 use Rattle.model.specs.Lists.{cases, All}
 use Rattle.model.specs.Vector.{Series, Vector, TakenVector, vector, faulty, take_vector}
 use Rattle.model.proofs.Laws.Faults.{FaultNumber, three_to_five, eleven, fault_of_lem}
 use Rattle.exposition.specs.Faults.{good_labels, some_too_large, fault_of, Fault, sound, fault, first_fault}
-use Rattle.semantics.specs.Exposition.{Exported, refused, written, fitted, judged, export_vector, export_taken, export}
+use Rattle.semantics.specs.Exposition.{refused, written, fitted, judged, export_vector, export_taken, export}
 use Rattle.theorems.specs.Claims.Exports.{Printable, text_of, ExportOutcome, number_3_to_5, number_11, number_15}
 use Rattle.theorems.specs.Claims.Exports.{number_16, number_10, text_written, EveryExport, NoOtherExport}
 

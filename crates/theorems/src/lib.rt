@@ -1,2 +1,2 @@
-// What is proved of a call, in specs/. No code.
+// What is proved of a call: the claims in specs/, their proofs in proofs/. No code.
 #![tactic(auto)]

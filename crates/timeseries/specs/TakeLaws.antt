@@ -12,8 +12,10 @@ use Rattle.model.specs.Vector.{bad_record, records_in, series_of, with_readings,
 use Rattle.model.specs.Vector.{two_bytes_at, shape_in, take_vector}
 use Rattle.model.proofs.Laws.Booleans.{both_of}
 use Rattle.model.proofs.Laws.Record.{decode_is}
-use Rattle.model.proofs.Laws.Vector.{ReadAs, records_read, read_bytes, series_count_lem, series_labels, series_bytes}
-use Rattle.model.proofs.Laws.Faults.{on_side, take-side}
+use Rattle.model.proofs.Laws.Vector.{records_read, read_bytes, series_count_lem, series_labels, series_bytes}
+use Rattle.model.specs.Encoded.{ReadAs}
+use Rattle.model.proofs.Laws.Faults.{take-side}
+use Rattle.model.specs.Encoded.{on_side}
 use Rattle.side_parts.specs.Sides.{labels_in, lent_series, ends, starts, Positions}
 use Rattle.side_parts.specs.SideLaws.{starts_count, labels_starts, positions_starts}
 use Rattle.timeseries.specs.record_walk.Walks.{noted}

@@ -35,7 +35,7 @@ use Rattle.join_series.specs.join_rows.Rows.{coded_join_row, JoinCode, work_afte
 use Rattle.join_series.proofs.Widths.{work_after_long}
 use Rattle.set_records.specs.Records as Set
 use Rattle.set_records.specs.Records.{coded_set_labels}
-use Rattle.set_series.specs.Series.{coded_set_row, SetCode, listed_places, SetRowPut}
+use Rattle.set_series.specs.Series.{SetCode, listed_places, SetRowPut}
 use Rattle.group_series.specs.points.Points.{points, Room}
 use Rattle.answering.specs.declared.families.Groups.{Groups}
 use Rattle.answering.specs.declared.families.Rule.{Rule}

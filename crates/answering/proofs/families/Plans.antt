@@ -2,11 +2,11 @@
 use Prim.Native.Nat.{ℕ, zero, suc, ◌+◌, ◌≤◌, ◌<◌}
 use mathlib.Core.Path.{◌≡◌, refl, sym, ap, ◌∙◌}
 use mathlib.Core.Option.{Option, none}
-use mathlib.Core.List.{List, [], ◌∷◌, map}
+use mathlib.Core.List.{List, [], map}
 use native.Mathlib.Nat.{zero-add}
 use native.Mathlib.Omega.{arith}
 use lib.ListN.{length, get_or, take, length-map}
-use lib.Seq.{sets, get_or-take, length-take-le, length-sets}
+use lib.Seq.{get_or-take}
 use Rattle.operator.specs.declared.Operator.{Operator}
 use Rattle.operator.specs.Kinds.{kind_of}
 use Rattle.model.specs.Limits.{max_series}
@@ -47,8 +47,8 @@ use Rattle.group_plan.proofs.Coding as Grouped
 use Rattle.answering.specs.declared.families.Groups.{Groups}
 use Rattle.answering.specs.declared.families.Rule.{Rule}
 use Rattle.answering.specs.declared.families.Rule.TheVariants as R
-use Rattle.answering.specs.families.Codes.{plan_series, CodeIn, coded_group_series}
-use Rattle.answering.specs.families.Plans.{rule_clash, rule_codes, early_codes, rule_series, RulePlanned}
+use Rattle.answering.specs.families.Codes.{plan_series, coded_group_series}
+use Rattle.answering.specs.families.Plans.{early_codes, RulePlanned}
 use Rattle.answering.proofs.families.Grouping.{group_in, group_series_lem}
 
 -- one-to-one, planned without the records

@@ -4,26 +4,21 @@ use Rattle.std.proofs.Math.Path.{refl, ap}
 use Rattle.std.proofs.Common.{sym, ◌∙◌, arith, length-append, le-leb, leb-true}
 use Rattle.std.proofs.Math.Bool.{cond}
 use mathlib.Core.List.{List, [], ◌∷◌, ◌++◌, append-nil}
+use Rattle.model.specs.Encoded.{aggregation_bytes, aggregation_of}
 use Rattle.model.specs.Lists.{cases, keep, is_empty}
 use Rattle.model.specs.Labels.{Tag, Labels, name_label, WellFormed}
 use Rattle.model.specs.Record.{encode_tags, encode}
 use Rattle.model.specs.Edits.{Names, is_listed, tags_on, tags_ignoring, remove_tags_on, remove_tags_ignoring}
 use Rattle.model.specs.Query.{Listed, not_listed, listed, list_in, on_listed}
 use Rattle.model.specs.Aggregation.{Grouping, by, without, Aggregation, remove_group_tags, group_labels, same_group}
-use Rattle.model.specs.Aggregation.{TakenAggregation, aggregation, bad_aggregate, malformed_aggregation}
+use Rattle.model.specs.Aggregation.{aggregation, bad_aggregate, malformed_aggregation}
 use Rattle.model.specs.Aggregation.{aggregate_of, grouping_of, with_list, with_grouping, take_aggregation}
 use Rattle.model.proofs.Laws.Tags.{same_labels_is, same_labels_refl}
 use Rattle.model.proofs.Laws.Edits.{clear_well, on_well, ignoring_well}
-use Rattle.model.proofs.Laws.Query.{GoodList, encode_list, list_again, list_is}
+use Rattle.model.proofs.Laws.Query.{GoodList, list_again, list_is}
+use Rattle.model.specs.Encoded.{encode_list}
 
 -- bytes
-
--- 02: The request is an aggregate byte, a byte 0 for `by` or 1 for `without`, and one list.
-abbrev pub aggregation_bytes : ℕ → ℕ → Names → List ℕ
-aggregation_bytes a g ns = a ∷ g ∷ encode_list ns
-
-abbrev pub aggregation_of : ℕ → ℕ → Names → Aggregation
-aggregation_of a g ns = record { aggregate = aggregate_of a; grouping = grouping_of g; list = ns }
 
 pub take-aggregation : (a g : ℕ) (ns : Names) → a ≤ 4 → g ≤ 1 → GoodList ns
     → take_aggregation (aggregation_bytes a g ns) ≡ aggregation (aggregation_of a g ns)

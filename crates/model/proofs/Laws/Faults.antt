@@ -1,6 +1,7 @@
 -- Faults of a vector: which numbers and places they have, and that the side is in their field alone. Assumes nothing.
 use Rattle.std.specs.Prelude.{ℕ, zero, suc, ◌*◌, ◌≤◌, ◌≡◌, refl, Bool, true, false, cond, ◌&&◌, List, [], ◌∷◌, leb, eqb, length, drop}
 use Rattle.std.proofs.Common.{sym, ap, ◌∙◌, arith}
+use Rattle.model.specs.Encoded.{on_side}
 use Rattle.model.specs.Limits.{max_series, max_points, sizes_length}
 use Rattle.model.specs.Labels.{Labels}
 use Rattle.model.specs.Record.{Decoded, decoded, cut, bad_key, decode}
@@ -32,10 +33,6 @@ bad_number (suc n) i s k j e = go (bad_number n (suc i)) (decode s) e
     go ih bad_key e = four (let z : 4 ≡ k = cc in sym z)
 
 -- taking on another side differs in that field alone
-
-abbrev pub on_side : ℕ → TakenVector → TakenVector
-on_side side (vector v) = vector v
-on_side side (faulty k other i) = faulty k side i
 
 cond_side : (b : Bool) (side : ℕ) (a c : TakenVector) → on_side side (cond b a c) ≡ cond b (on_side side a) (on_side side c)
 cond_side true side a c = refl

@@ -9,6 +9,7 @@ use Rattle.std.proofs.Math.Dec.{leb}
 use borrow.Author.Tests.{le-leb, lt-leb, leb-true, leb-false}
 use Rattle.operator.specs.declared.Operator.{Operator}
 use Rattle.operator.specs.Operators.{operator_of, is_carried}
+use Rattle.model.specs.Encoded.{encode_names, encode_list, query_bytes}
 use Rattle.model.specs.Limits.{max_listed, max_allowance}
 use Rattle.model.specs.Lists.{All, is_empty}
 use Rattle.model.specs.Record.{Field, short, field, read_field, on_field, encode_field}
@@ -23,13 +24,6 @@ use Rattle.model.proofs.Laws.Record.{read_field_lem, field_read}
 pub record GoodList (ns : Names) : Type 0 where
   pub few : length ns ≤ max_listed
   pub each : All (λ n. is_empty n ≡ false) ns
-
-abbrev pub encode_names : Names → List ℕ
-encode_names [] = []
-encode_names (n ∷ ns) = encode_field n ++ encode_names ns
-
-abbrev pub encode_list : Names → List ℕ
-encode_list ns = length ns ∷ encode_names ns
 
 names_again : (ns : Names) (rest : List ℕ) → All (λ n. is_empty n ≡ false) ns → names_in (length ns) (encode_names ns ++ rest) ≡ listed ns rest
 unfolding names_in
@@ -96,10 +90,6 @@ list_is (n ∷ s) ns rest e = go (leb n max_listed) refl e
         record { good = record { few = omega (arith, a.count); each = a.each }; bytes = rw a.count (ap (λ t. n ∷ t) a.bytes) }
 
 -- queries
-
--- 01: A query is: operator byte; matching byte; join byte; flag byte; matching list; join list. 02: a last byte, the allowance.
-abbrev pub query_bytes : ℕ → ℕ → ℕ → ℕ → Names → Names → ℕ → List ℕ
-query_bytes n m j f ns js a = n ∷ m ∷ j ∷ f ∷ (encode_list ns ++ (encode_list js ++ (a ∷ [])))
 
 -- what numbers 1 and 2 ask of them
 pub record GoodQuery (n m j f : ℕ) (o : Operator) (ns js : Names) (a : ℕ) : Type 0 where

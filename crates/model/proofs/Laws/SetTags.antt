@@ -1,5 +1,5 @@
 -- `set_tags` is one walk over two tag lists in key order, a record's and its source's; and its name. Assumes nothing.
-use Rattle.std.specs.Prelude.{ℕ, ◌≡◌, Bool, false, not, cond, ◌&&◌, ◌||◌}
+use Rattle.std.specs.Prelude.{ℕ, ◌≡◌, Bool, false, not, cond, ◌&&◌}
 use Rattle.std.proofs.Math.Path.{refl}
 use Rattle.std.proofs.Common.{sym, ap, ◌∙◌}
 use Rattle.std.proofs.Math.Bool.{true}
@@ -9,7 +9,7 @@ use Rattle.model.specs.Lists.{cases, keep}
 use Rattle.model.specs.Labels.{Tag, Labels, same_bytes, below, name_label, may_follow, ascending, value_of, WellFormed}
 use Rattle.model.specs.Edits.{Names, is_listed, insert_tag, without_tag, set_or_remove, set_label, set_listed}
 use Rattle.model.specs.Edits.{copy_tags, star, is_star, set_tags}
-use Rattle.model.specs.TagWalk.{is_set, remains, cons_if, walk_with, walk_tags}
+use Rattle.model.specs.TagWalk.{is_set, remains, cons_if, walk_tags}
 use Rattle.model.proofs.Laws.Booleans.{never, not_true, and_true, both_of}
 use Rattle.model.proofs.Laws.Order.{same_is, is_same, below_other, value_before, value_none, value_here}
 use Rattle.model.proofs.Laws.Order.{value_later, ascending_tail, ascending_cons, ascending_lower, may_follow_lem, keep_ascending}

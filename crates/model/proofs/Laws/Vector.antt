@@ -4,6 +4,7 @@ use Rattle.std.proofs.Math.Path.{refl}
 use Rattle.std.proofs.Common.{sym, ap, ◌∙◌, arith, length-append, length-drop, take-append-drop, take_at, drop_at, drop-cons, length-take-le, le-leb, leb-true, eqb-true, eq-eqb}
 use Rattle.std.proofs.Math.Bool.{true, false, cond}
 use Rattle.std.proofs.Math.Dec.{leb}
+use Rattle.model.specs.Encoded.{record_bytes, ReadAs}
 use Rattle.model.specs.Limits.{max_series, max_points, max_tags, max_label_bytes, max_start, max_step, sizes_length}
 use Rattle.model.specs.Lists.{All}
 use Rattle.model.specs.Labels.{Labels, Bytes, WellFormed}
@@ -105,16 +106,6 @@ take-valid side v h =
 record GoodLabels (l : Labels) : Type 0 where
   well : WellFormed l
   few : length l.tags ≤ max_tags
-
--- records one after another
-unfoldable pub record_bytes : List Labels → List ℕ
-record_bytes [] = []
-record_bytes (l ∷ ls) = encode l ++ record_bytes ls
-
--- bytes that are read as records, one after another, to their end
-abbrev pub ReadAs : List Labels → List ℕ → Type 0
-ReadAs [] s = s ≡ []
-ReadAs (l ∷ ls) s = (rest : List ℕ) × (decode s ≡ decoded l rest) × ReadAs ls rest
 
 pub record RecordsRead (n : ℕ) (s : List ℕ) (ls : List Labels) : Type 0 where
   pub count : length ls ≡ n

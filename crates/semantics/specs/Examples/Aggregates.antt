@@ -2,7 +2,7 @@
 use Rattle.std.specs.Prelude.{ℕ, ◌≡◌, refl, List, [], ◌∷◌, map}
 use Rattle.model.specs.Labels.{name_label}
 use Rattle.model.specs.Edits.{star}
-use Rattle.model.proofs.Laws.Aggregation.{aggregation_bytes}
+use Rattle.model.specs.Encoded.{aggregation_bytes}
 use Rattle.model.specs.Vector.{Series, Shape, label_part, readings_of}
 use Rattle.model.specs.Examples.Numbers.{one, two, three, four, five, six, eight, minus_zero, infinity, minus_infinity}
 use Rattle.model.specs.Examples.Numbers.{payload, zero, minutely, on_minutes}

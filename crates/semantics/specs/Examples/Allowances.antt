@@ -1,6 +1,6 @@
 -- Instances of the overlapping places that a query allows, worked by hand. Assumes nothing.
 use Rattle.std.specs.Prelude.{ℕ, ◌≡◌, refl, List, [], ◌∷◌, map}
-use Rattle.model.proofs.Laws.Query.{query_bytes}
+use Rattle.model.specs.Encoded.{query_bytes}
 use Rattle.model.specs.Vector.{Series}
 use Rattle.model.specs.Examples.Numbers.{one, two, three, zero}
 use Rattle.semantics.specs.Call.{Outcome, refused, call}

@@ -1,6 +1,6 @@
 -- Short names for the examples: readings, labels, sides and queries. Assumes nothing.
 use Rattle.std.specs.Prelude.{ℕ, List, [], ◌∷◌, length}
-use Rattle.model.proofs.Laws.Query.{query_bytes}
+use Rattle.model.specs.Encoded.{query_bytes}
 use Rattle.model.specs.Reading.{no_reading}
 use Rattle.model.specs.Labels.{Tag}
 use Rattle.model.specs.Vector.{Series, label_part, label_bytes, readings_of}

@@ -2,7 +2,7 @@
 use Rattle.std.specs.Prelude.{ℕ, ◌≡◌, refl, Bool, true, false, List, [], ◌∷◌, get_or}
 use Rattle.model.specs.Labels.{name_label}
 use Rattle.model.specs.Vector.{Series}
-use Rattle.model.proofs.Laws.Aggregation.{aggregation_bytes}
+use Rattle.model.specs.Encoded.{aggregation_bytes}
 use Rattle.model.specs.Examples.Numbers.{one, two, three, four, five, minutely}
 use Rattle.semantics.specs.Call.{Outcome}
 use Rattle.semantics.specs.Computing.{computing}

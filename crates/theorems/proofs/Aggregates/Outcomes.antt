@@ -1,5 +1,5 @@
 -- The outcomes of a request for an aggregate, each under its condition: claimed in Claims.Aggregates. Assumes nothing.
-use Rattle.std.specs.Prelude.{ℕ, suc, ◌+◌, ◌≤◌, ◌≡◌, refl, Bool, cond, List, [], ◌∷◌, map, length}
+use Rattle.std.specs.Prelude.{ℕ, suc, ◌≤◌, ◌≡◌, refl, Bool, cond, List, [], ◌∷◌, map, length}
 use Rattle.std.proofs.Common.{sym, ap, ◌∙◌, append-nil, arith, le-ltb}
 use Rattle.std.proofs.Math.Bool.{true, false}
 use Rattle.model.specs.Limits.{max_series, max_tags, max_label_bytes}

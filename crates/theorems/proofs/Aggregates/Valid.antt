@@ -1,7 +1,7 @@
 -- What a request for an aggregate answers is a valid vector: the claim is in Claims.Aggregates. Assumes nothing.
-use Rattle.std.specs.Prelude.{ℕ, ◌≡◌}
+use Rattle.std.specs.Prelude.{ℕ}
 use Rattle.std.proofs.Common.{sym, ap, ◌∙◌}
-use mathlib.Core.List.{List, [], ◌∷◌}
+use mathlib.Core.List.{List, []}
 use Rattle.model.specs.Lists.{All}
 use Rattle.model.specs.Query.{left}
 use Rattle.model.specs.Vector.{Series}

@@ -1,5 +1,5 @@
 -- `set_work` meets its contract. Assumes nothing.
-use Rattle.set_plan.proofs.set_operators.Works.{and_work, or_work, unless_work, if_work, if_not_work, default_work}
+use Rattle.set_plan.proofs.set_operators.Works.{and_work, or_work, unless_work, if_work, if_not_work}
 use Rattle.set_plan.proofs.set_operators.set_work.Goals as goal
 
 pub returns-in-And : goal.returns-in-And

@@ -1,5 +1,5 @@
 -- `set_rule` meets its contract. Assumes nothing.
-use Rattle.set_series.proofs.set_points.Rules.{and_rule, if_rule, unless_rule, if_not_rule, other_rule}
+use Rattle.set_series.proofs.set_points.Rules.{and_rule, if_rule, unless_rule, if_not_rule}
 use Rattle.set_series.proofs.set_points.set_rule.Goals as goal
 
 pub returns-in-And : goal.returns-in-And
