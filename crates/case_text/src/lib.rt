@@ -1,14 +1,25 @@
 // What the programs that run cases read and print. No contract can say what is read or written.
 #![tactic(auto)]
 
+ghost use Rattle.std.specs.Prelude.{◌≤◌, length, IfOk};
+
 use std::io;
 use std::io::Read;
 
-// Standard input, cut at a number of bytes.
-pub fn read_input(rt: &(impl Input + AllocGlobal), most: u64) -> io::Result<Vec<u8>> {
-    let mut input = Vec::new(rt.alloc());
-    rt.reader().take(most).read_to_end(&mut input)?;
-    Ok(input)
+// Reads standard input into a buffer, to the buffer's end or the input's, and says how many bytes that is.
+pub fn read_full(rt: &impl Input, buf: &mut [u8]) -> io::Result<usize>
+    ensures { IfOk result (λ n. n ≤ length buf.new) }
+{
+    let mut input = rt.reader();
+    let mut n: usize = 0;
+    for _ in 0..u64::MAX {
+        let got = input.read(&mut buf[n..])?;
+        if got == 0 {
+            break;
+        }
+        n += got;
+    }
+    Ok(n)
 }
 
 pub fn print(rt: &impl Print, text: &[u8]) -> io::Result<()> {

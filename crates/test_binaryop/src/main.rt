@@ -6,7 +6,7 @@
 ghost use Rattle.std.specs.Prelude.{◌≡◌, ◌*◌, ◌≤◌, length, IfOk};
 
 use case_parts::{number_at, reading_at};
-use case_text::{print, read_input};
+use case_text::{print, read_full};
 use merge::Merged;
 use operator::{Coded, Operator};
 use std::io;
@@ -131,6 +131,7 @@ fn run(rt: &impl Print, s: &[u8]) -> io::Result<()> {
 }
 
 fn main(rt: HostRuntime) -> io::Result<()> {
-    let input = read_input(&rt, 65536)?;
-    run(&rt, &input)
+    let mut input = [0u8; 65536];
+    let n = read_full(&rt, &mut input)?;
+    run(&rt, &input[..n])
 }

@@ -9,7 +9,7 @@ ghost use Rattle.side_parts.specs.Sides.{Positions};
 ghost use Rattle.test_keys.specs.Sides.{Side, SideAt};
 
 use case_parts::part_at;
-use case_text::{print, print_number, read_input};
+use case_text::{print, print_number, read_full};
 use labels::Matching;
 use operator::Operator;
 use std::io;
@@ -197,6 +197,7 @@ fn run(rt: &impl Print, s: &[u8]) -> io::Result<()> {
 }
 
 fn main(rt: HostRuntime) -> io::Result<()> {
-    let input = read_input(&rt, 262144)?;
-    run(&rt, &input)
+    let mut input = [0u8; 262144];
+    let n = read_full(&rt, &mut input)?;
+    run(&rt, &input[..n])
 }

@@ -3,7 +3,7 @@
 #![tactic(auto)]
 
 use case_parts::part_at;
-use case_text::{print, print_bool, print_bytes, print_front, print_size, read_input};
+use case_text::{print, print_bool, print_bytes, print_front, print_size, read_full};
 use label_records::Record;
 use labels::Matching;
 use metric_name::TagState;
@@ -114,6 +114,7 @@ fn run(rt: &impl Print, s: &[u8]) -> io::Result<()> {
 }
 
 fn main(rt: HostRuntime) -> io::Result<()> {
-    let input = read_input(&rt, 262144)?;
-    run(&rt, &input)
+    let mut input = [0u8; 262144];
+    let n = read_full(&rt, &mut input)?;
+    run(&rt, &input[..n])
 }

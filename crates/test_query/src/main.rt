@@ -2,7 +2,7 @@
 #![tactic(auto)]
 
 use case_parts::part_at;
-use case_text::{print, print_number, read_input};
+use case_text::{print, print_number, read_full};
 use labels::Matching;
 use query::{Join, Query, Request};
 use std::io;
@@ -69,6 +69,7 @@ fn run(rt: &impl Print, s: &[u8]) -> io::Result<()> {
 }
 
 fn main(rt: HostRuntime) -> io::Result<()> {
-    let input = read_input(&rt, 65536)?;
-    run(&rt, &input)
+    let mut input = [0u8; 65536];
+    let n = read_full(&rt, &mut input)?;
+    run(&rt, &input[..n])
 }

@@ -9,7 +9,7 @@ ghost use Rattle.model.specs.Limits.{max_label_bytes};
 ghost use Rattle.set_tags.specs.Records.{ShortRecords};
 
 use case_parts::part_at;
-use case_text::{print, print_bool, print_front, print_size, read_input};
+use case_text::{print, print_bool, print_front, print_size, read_full};
 use label_records::Record;
 use operator::Operator;
 use set_tags::Naming;
@@ -94,6 +94,7 @@ fn run(rt: &impl Print, s: &[u8]) -> io::Result<()> {
 }
 
 fn main(rt: HostRuntime) -> io::Result<()> {
-    let input = read_input(&rt, 262144)?;
-    run(&rt, &input)
+    let mut input = [0u8; 262144];
+    let n = read_full(&rt, &mut input)?;
+    run(&rt, &input[..n])
 }

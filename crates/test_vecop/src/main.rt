@@ -5,7 +5,7 @@ ghost use Rattle.std.specs.Prelude.{◌≤◌, length};
 ghost use Rattle.vecop_run.specs.Vecop.{max_text};
 
 use case_parts::number_at;
-use case_text::{print, read_input};
+use case_text::{print, read_full};
 use std::io;
 
 fn show(rt: &impl Print, s: &[u8], text: &mut [u8]) -> io::Result<()>
@@ -33,7 +33,8 @@ fn run(rt: &impl Print, s: &[u8], text: &mut [u8]) -> io::Result<()>
 }
 
 fn main(rt: HostRuntime) -> io::Result<()> {
-    let input = read_input(&rt, 524288)?;
+    let mut input = [0u8; 524288];
+    let n = read_full(&rt, &mut input)?;
     let mut text = [0u8; vecop_run::MAX_TEXT];
-    run(&rt, &input, &mut text)
+    run(&rt, &input[..n], &mut text)
 }

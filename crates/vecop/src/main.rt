@@ -2,15 +2,12 @@
 #![tactic(auto)]
 
 use std::io;
-use std::io::Read;
 
-// A byte more than an input may have.
-const MOST_READ: u64 = 65537;
-
+// The input's buffer holds a byte more than an input may have.
 fn main(rt: HostRuntime) -> io::Result<()> {
-    let mut input = Vec::new(rt.alloc());
-    rt.reader().take(MOST_READ).read_to_end(&mut input)?;
+    let mut input = [0u8; 65537];
+    let n = case_text::read_full(&rt, &mut input)?;
     let mut text = [0u8; vecop_run::MAX_TEXT];
-    let k = vecop_run::vecop(&input, &mut text);
+    let k = vecop_run::vecop(&input[..n], &mut text);
     rt.write_all(&text[..k])
 }
