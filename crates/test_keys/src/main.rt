@@ -30,7 +30,6 @@ fn print_numbers(rt: &impl Print, keys: &[usize]) -> io::Result<()> {
 }
 
 fn number<'a, 'b>(
-    rt: &impl Print,
     choice: Choice,
     list: &[u8],
     left: &'a [u8],
@@ -41,7 +40,7 @@ fn number<'a, 'b>(
     right_at: &'b [usize],
     right_hashes: &mut [u64],
     right_keys: &mut [usize],
-) -> io::Result<()>
+)
     requires positions { Positions left.now left_at.now }
     requires left_at_len { length left_at.now ≡ length left_keys.old + 1 }
     requires left_hashes_len { length left_hashes.old ≡ length left_keys.old }
@@ -64,10 +63,6 @@ fn number<'a, 'b>(
         right_hashes,
         right_keys,
     );
-    print_numbers(rt, left_keys)?;
-    print(rt, b" |")?;
-    print_numbers(rt, right_keys)?;
-    print(rt, b"\n")
 }
 
 fn number_sides<'a, 'b>(
@@ -89,7 +84,6 @@ fn number_sides<'a, 'b>(
     let mut right_hashes = [0u64; 512];
     let mut right_keys = [0usize; 512];
     number(
-        rt,
         choice,
         list,
         left,
@@ -100,7 +94,11 @@ fn number_sides<'a, 'b>(
         right_at,
         &mut right_hashes[..m],
         &mut right_keys[..m],
-    )
+    );
+    print_numbers(rt, &left_keys[..n])?;
+    print(rt, b" |")?;
+    print_numbers(rt, &right_keys[..m])?;
+    print(rt, b"\n")
 }
 
 // A side that is not taken, with 01's number and place.
