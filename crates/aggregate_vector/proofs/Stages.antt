@@ -1,11 +1,9 @@
 -- What each stage of a request comes to, by what taking found. Assumes nothing.
-use Prim.Native.Nat.{ℕ, ◌+◌, ◌-◌, ◌≤◌, ◌<◌}
+use Prim.Native.Nat.{ℕ, ◌+◌, ◌-◌, ◌≤◌}
+use Rattle.std.specs.Prelude.{Result, Ok, Err}
 use mathlib.Core.Path.{◌≡◌, refl, sym, ap, ◌∙◌}
 use mathlib.Core.Bool.{Bool}
-use mathlib.Core.List.{List, [], ◌∷◌, ◌++◌}
-use mathlib.Core.Logic.{inl, inr}
-use types.Run.{OneOf}
-use denote.Enum.Declared.{tag_of}
+use mathlib.Core.List.{List, ◌++◌}
 use native.Mathlib.Omega.{arith}
 use lib.ListN.{length, take, drop, length-append, length-drop, length-map}
 use lib.Seq.{take_all, take_at, length-take-le}
@@ -16,37 +14,22 @@ use Rattle.model.specs.Vector.{Shape}
 use Rattle.semantics.specs.Aggregates.{on_aggregation, aggregate_call}
 use Rattle.labels.specs.Names.{names_of}
 use Rattle.query.specs.declared.aggregations.Aggregation.{Aggregation}
-use Rattle.query.specs.declared.aggregations.AggregationRequest.{AggregationRequest}
-use Rattle.query.specs.declared.aggregations.AggregationRequest.TheVariants as R
+use Rattle.query.specs.declared.aggregations.AggregationError.{AggregationError}
+use Rattle.query.specs.declared.aggregations.AggregationError.TheVariants as E
 use Rattle.query.specs.declared.aggregations.Grouping.{Grouping}
 use Rattle.query.specs.declared.aggregations.Grouping.TheVariants as G
-use Rattle.query.specs.contracts.aggregations.AggregationRequest.{the_type as request-type}
 use Rattle.query.specs.aggregations.Requests.{grouping_of, aggregation_by, aggregation_of, request_number, TakenAs}
 use Rattle.query.specs.aggregations.Requests.{aggregation_taken, aggregate_refused, aggregation_malformed}
 use Rattle.side_parts.specs.Sides.{labels_in, Positions}
 use Rattle.side_parts.specs.Lent.{Held}
 use Rattle.side_parts.specs.SideLaws.{labels_count}
-use Rattle.answers.specs.declared.Outcome.{Outcome}
-use Rattle.answers.specs.declared.Outcome.TheVariants as Out
-use Rattle.answers.specs.Outcomes.{Ran, told, refusal}
+use Rattle.answers.specs.declared.Answer.{Answer}
+use Rattle.answers.specs.declared.Refusal.{Refusal}
+use Rattle.answers.specs.Outcomes.{Ran, refused_request}
 use Rattle.keyed_sides.specs.TakenSides.{TakenSide}
 use Rattle.answering.specs.declared.families.Groups.{Groups}
 use Rattle.aggregate_vector.specs.Groups.{keeps_name, series_stage, vector_stage}
 use Rattle.aggregate_vector.specs.Runs.{GroupsFor, numbers_for, vector_side, groups_outcome, stage_is}
-
--- `refusal_of`
-
-module _ (r : AggregationRequest) where
-  pub refusal_aggregate : r ≡ R.BadAggregate → told Out.BadAggregate ≡ refusal (request_number r) 0 0
-  refusal_aggregate e = rw e
-
-  pub refusal_malformed : r ≡ R.Malformed → told Out.Malformed ≡ refusal (request_number r) 0 0
-  refusal_malformed e = rw e
-
-pub refusal_none : (r : AggregationRequest) {A : Type 0} → 0 < request_number r → tag_of request-type r ≡ 0 → A
-refusal_none (R.Asked a) h e = absurd (omega (arith, h))
-refusal_none R.BadAggregate h e = absurd (omega (arith, e))
-refusal_none R.Malformed h e = absurd (omega (arith, e))
 
 -- `keeps_name`
 pub keeps_by : (g : Grouping) (names : List ℕ) (b : Bool) → g ≡ G.By → b ≡ is_listed (names_of names) name_label
@@ -91,7 +74,7 @@ module _ (g : Groups) (names : List ℕ) (p : ℕ) (array at rows : List ℕ) (t
   keys_held = rw front_is (t.held d (omega (arith, count, t.some)))
 
   pub groups_ran : (a : Aggregation) → GroupsFor (aggregation_by names a) g → (shape : Shape) → shape.points ≡ p
-      → (labels₀ out₀ labels out : List ℕ) (r : Outcome)
+      → (labels₀ out₀ labels out : List ℕ) (r : Result Answer Refusal)
       → Ran
       (groups_outcome g names shape (vector_side array at (take (length at - 1) (d ++ rest)) rows) (length labels₀)
       (length out₀))
@@ -108,51 +91,34 @@ module _ (g : Groups) (names : List ℕ) (p : ℕ) (array at rows : List ℕ) (t
 
 -- `exec_aggregate`: a request that is refused, or taken
 
-pub refused_number : (r : AggregationRequest) → OneOf (1 ∷ 2 ∷ []) (tag_of request-type r) → 0 < request_number r
-refused_number (R.Asked a) h = absurd (not_zero h)
-  where
-    not_zero : OneOf (1 ∷ 2 ∷ []) 0 → ⊥
-    not_zero (inl e) = omega (arith, e)
-    not_zero (inr e) = omega (arith, e)
-refused_number R.BadAggregate h = omega arith
-refused_number R.Malformed h = omega arith
-
 -- a list that is taken stands behind two bytes
-pub list_stands : (s : List ℕ) (r : AggregationRequest) → TakenAs s (Model.take_aggregation s) r → (a : Aggregation)
-    → r ≡ R.Asked a → 2 ≤ length s
-list_stands s r h a e = let w = h.within a e in omega (arith, w)
+pub list_stands : (s : List ℕ) (a : Aggregation) → TakenAs s (Model.take_aggregation s) (Ok a) → 2 ≤ length s
+list_stands s a h = let w = h.within a refl in omega (arith, w)
 
-module _ (s : List ℕ) (r : AggregationRequest) (h : TakenAs s (Model.take_aggregation s) r)
-    (labels readings labels₀ out₀ : List ℕ) where
+module _ (s : List ℕ) (labels readings labels₀ out₀ : List ℕ) where
   call_by : (t : Model.TakenAggregation) → Model.take_aggregation s ≡ t
       → aggregate_call s labels readings (length labels₀) (length out₀)
       ≡ on_aggregation t (λ a. vector_stage a labels readings (length labels₀) (length out₀))
   unfolding aggregate_call
   call_by t e = rw e
 
-  pub ran_refused : (x : Outcome) → 0 < request_number r → told x ≡ refusal (request_number r) 0 0
-      → Ran (aggregate_call s labels readings (length labels₀) (length out₀)) labels₀ out₀ labels₀ out₀ x
-  ran_refused x n e = by r refl n e
-    where
-      by : (r' : AggregationRequest) → r ≡ r' → 0 < request_number r' → told x ≡ refusal (request_number r') 0 0
-          → Ran (aggregate_call s labels readings (length labels₀) (length out₀)) labels₀ out₀ labels₀ out₀ x
-      by (R.Asked a) y n t = absurd (omega (arith, n))
-      by R.BadAggregate y n t = rw
-          (call_by Model.bad_aggregate (aggregate_refused s (Model.take_aggregation s) (rw y at h)))
-          (record { outcome = t; label_part = refl; reading_part = refl })
-      by R.Malformed y n t = rw
-          (call_by Model.malformed_aggregation (aggregation_malformed s (Model.take_aggregation s) (rw y at h)))
-          (record { outcome = t; label_part = refl; reading_part = refl })
+  pub ran_refused : (e : AggregationError) → TakenAs s (Model.take_aggregation s) (Err e)
+      → Ran (aggregate_call s labels readings (length labels₀) (length out₀)) labels₀ out₀ labels₀ out₀ (Err (refused_request e))
+  ran_refused E.BadAggregate h = rw
+      (call_by Model.bad_aggregate (aggregate_refused s (Model.take_aggregation s) h))
+      (record { outcome = refl; label_part = refl; reading_part = refl })
+  ran_refused E.Malformed h = rw
+      (call_by Model.malformed_aggregation (aggregation_malformed s (Model.take_aggregation s) h))
+      (record { outcome = refl; label_part = refl; reading_part = refl })
 
-  module _ (a : Aggregation) (e : r ≡ R.Asked a) where
-    behind : take (length s - 2) (drop 2 s) ≡ drop 2 s
-    behind = take_all (length s - 2) (drop 2 s) (omega (arith, length-drop 2 s))
+  behind : 2 ≤ length s → take (length s - 2) (drop 2 s) ≡ drop 2 s
+  behind h = take_all (length s - 2) (drop 2 s) (omega (arith, length-drop 2 s, h))
 
-    pub ran_asked : (d o : List ℕ) (x : Outcome)
-        → Ran
-        (vector_stage (aggregation_by (take (length s - 2) (drop 2 s)) a) labels readings (length labels₀) (length out₀))
-        labels₀ out₀ d o x
-        → Ran (aggregate_call s labels readings (length labels₀) (length out₀)) labels₀ out₀ d o x
-    ran_asked d o x k = rw
-        (call_by (Model.aggregation (aggregation_of s a)) (aggregation_taken s (Model.take_aggregation s) a (rw e at h)))
-        (rw behind at k)
+  pub ran_asked : (a : Aggregation) → TakenAs s (Model.take_aggregation s) (Ok a) → (d o : List ℕ) (x : Result Answer Refusal)
+      → Ran
+      (vector_stage (aggregation_by (take (length s - 2) (drop 2 s)) a) labels readings (length labels₀) (length out₀))
+      labels₀ out₀ d o x
+      → Ran (aggregate_call s labels readings (length labels₀) (length out₀)) labels₀ out₀ d o x
+  ran_asked a h d o x k = rw
+      (call_by (Model.aggregation (aggregation_of s a)) (aggregation_taken s (Model.take_aggregation s) a h))
+      (rw (behind (list_stands s a h)) at k)

@@ -1,15 +1,15 @@
 // An aggregate over one vector: request and vector are taken, the series numbered by their groups, and the rule run.
 #![tactic(auto)]
 
-ghost use Rattle.std.specs.Prelude.{◌≡◌, ◌+◌, ◌≤◌, ◌<◌, length};
+ghost use Rattle.std.specs.Prelude.{◌≡◌, ◌+◌, ◌≤◌, length};
 ghost use Rattle.model.specs.Limits.{max_series};
 ghost use Rattle.labels.specs.Names.{names_of};
 ghost use Rattle.labels.specs.Matchings.{matching_of};
-ghost use Rattle.query.specs.aggregations.Requests.{grouping_of, aggregation_by, request_number};
+ghost use Rattle.query.specs.aggregations.Requests.{grouping_of, aggregation_by};
 ghost use Rattle.semantics.specs.Aggregates.{aggregate_call};
 ghost use Rattle.side_parts.specs.Sides.{labels_in, Positions};
 ghost use Rattle.side_parts.specs.Lent.{shape_of, Held};
-ghost use Rattle.answers.specs.Outcomes.{Ran, told, refusal};
+ghost use Rattle.answers.specs.Outcomes.{Ran};
 ghost use Rattle.key_numbers.specs.key_lookup.Keys.{numbers};
 ghost use Rattle.keyed_sides.specs.TakenSides.{TakenSide};
 ghost use Rattle.aggregate_vector.specs.Groups.{group_matching, keeps_name, series_stage};
@@ -17,23 +17,11 @@ ghost use Rattle.aggregate_vector.specs.Runs.{GroupsFor, numbers_for, vector_sid
 
 use answering::{Groups, Rule};
 use answers::Outcome;
+use key_numbers::KeyRule;
 use labels::Matching;
 use operator::Operator;
-use query::{Aggregation, AggregationRequest, Grouping};
+use query::{Aggregation, Grouping};
 use side_parts::Shape;
-use timeseries::Taken;
-
-// Why a request was refused.
-fn refusal_of(asked: AggregationRequest) -> Outcome
-    requires { 0 < request_number asked }
-    ensures { told result ≡ refusal (request_number asked) 0 0 }
-{
-    match asked {
-        AggregationRequest::BadAggregate => Outcome::BadAggregate,
-        AggregationRequest::Malformed => Outcome::Malformed,
-        AggregationRequest::Asked(_) => Outcome::Malformed,
-    }
-}
 
 // The tags that a group's labels keep.
 fn matching_of(g: Grouping) -> Matching
@@ -77,8 +65,12 @@ fn number_groups(g: Groups, names: &[u8], array: &[u8], at: &[usize], keys: &mut
 {
     let mut hashes = [0u64; 512];
     let n = keys.len();
-    let matching = g.matching;
-    key_numbers::number_left(array, at, g.named, matching, names, &mut hashes[..n], keys);
+    let rule = KeyRule {
+        named: g.named,
+        matching: g.matching,
+        list: names,
+    };
+    key_numbers::number_left(array, at, rule, &mut hashes[..n], keys);
 }
 
 // The series are numbered: runs the rule. The vector stands on both sides, of which the second is not read.
@@ -161,20 +153,16 @@ pub fn exec_aggregate(
         (length out_labels.old) (length out.old))
         out_labels.old out.old out_labels.new out.new result }
 {
-    let asked = query::take_aggregation(request);
-    let AggregationRequest::Asked(a) = asked else {
-        return refusal_of(asked);
-    };
+    let a = query::take_aggregation(request)?;
     let mut at = [0usize; 513];
-    let taken = timeseries::take_vector(labels, readings, &mut at);
-    let Taken::Vector { series: n, shape } = taken else {
-        return vector_faults::fault_of(0, taken);
-    };
-    let e = n + 1;
+    let vector = timeseries::take_vector(labels, readings, &mut at).map_err(
+        |fault| vector_faults::fault_of(0, fault),
+    )?;
+    let e = vector.series + 1;
     run_groups(
         a,
         &request[2..],
-        shape,
+        vector.shape,
         &labels[Operator::SIZES_LENGTH..],
         &at[..e],
         readings,

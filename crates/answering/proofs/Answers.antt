@@ -11,19 +11,19 @@ use Rattle.model.specs.Lists.{gather}
 use Rattle.model.specs.Vector.{Series}
 use Rattle.semantics.specs.Call.{fit}
 use Rattle.side_parts.specs.Lent.{Side, Sides, rows_only, in_code, of_points, BothHeld, BothFormed, BothRowsHeld}
-use Rattle.answers.specs.declared.Outcome.{Outcome}
-use Rattle.answers.specs.declared.Outcome.TheVariants as Out
-use Rattle.answers.specs.declared.Planned.{Planned}
-use Rattle.answers.specs.declared.Planned.TheVariants as P
+use Rattle.std.specs.Prelude.{Result, Ok, Err, ⊤}
+use Rattle.answers.specs.declared.Answer.{Answer}
+use Rattle.answers.specs.declared.Refusal.{Refusal}
+use Rattle.answers.specs.declared.Refusal.TheVariants as Out
+use Rattle.answers.specs.declared.Twice.{Twice}
 use Rattle.answers.specs.declared.Tally.{Tally}
-use Rattle.answers.specs.declared.Room.{Room}
-use Rattle.answers.specs.declared.Room.TheVariants as Room
-use Rattle.answers.specs.Outcomes.{Ran, starting_with}
+use Rattle.answers.specs.declared.NoRoom.{NoRoom}
+use Rattle.answers.specs.Outcomes.{Ran, starting_with, refused_twice, refused_room}
 use Rattle.answers.specs.Plans.{noted_by, up_to}
 use Rattle.answers.specs.Tallies.{records_of, RecordsPut, some_wide, TallyOf, room_number, room_refusal}
-use Rattle.answers.proofs.Concluding.{ran_too_large, ran_too_long, ran_answer}
+use Rattle.answers.proofs.Concluding.{ran_no_room, ran_answer}
 use Rattle.answers.proofs.Numbering.{up_long, coded_records, coded_tally}
-use Rattle.answers.proofs.Planning.{planned_left_twice, planned_right_twice, planned_too_many, planned_answer}
+use Rattle.answers.proofs.Planning.{planned_twice, planned_too_many, planned_answer}
 use Rattle.answers.proofs.Tallies.{records_narrow, records_fit, rows_fit}
 use Rattle.answering.specs.declared.families.Rule.{Rule}
 use Rattle.answering.specs.declared.families.Rule.TheVariants as R
@@ -80,24 +80,18 @@ module _ (s : Sides) (held : BothHeld s) where
 
 -- the plan carried out
 
-module _ (rule : Rule) (first second : List ℕ) (s : Sides) (held : BothHeld s) (before codes marks : List ℕ) (r : Planned)
+module _ (rule : Rule) (first second : List ℕ) (s : Sides) (held : BothHeld s) (before codes marks : List ℕ) (r : Result ℕ Twice)
     (w : RulePlanned rule first second s before codes marks r) (long : length before ≡ max_series) where
   module _ (labels₀ out₀ : List ℕ) where
-    pub run_left_twice : (kept failed : ℕ) → r ≡ P.LeftTwice kept failed
-        → Ran (rule_outcome rule first second (length labels₀) (length out₀) s) labels₀ out₀ labels₀ out₀ (Out.LeftTwice kept failed)
-    run_left_twice kept failed h =
-        planned_left_twice (rule_clash rule first second s) (rule_codes rule first second s) (early_codes rule first second s) before codes r w.planned
-        s.shape (rule_series rule first second s) labels₀ out₀ kept failed h
+    pub run_twice : (twice : Twice) → r ≡ Err twice
+        → Ran (rule_outcome rule first second (length labels₀) (length out₀) s) labels₀ out₀ labels₀ out₀ (Err (refused_twice twice))
+    run_twice twice h =
+        planned_twice (rule_clash rule first second s) (rule_codes rule first second s) (early_codes rule first second s) before codes r w.planned
+        s.shape (rule_series rule first second s) labels₀ out₀ twice h
 
-    pub run_right_twice : (kept failed : ℕ) → r ≡ P.RightTwice kept failed
-        → Ran (rule_outcome rule first second (length labels₀) (length out₀) s) labels₀ out₀ labels₀ out₀ (Out.RightTwice kept failed)
-    run_right_twice kept failed h =
-        planned_right_twice (rule_clash rule first second s) (rule_codes rule first second s) (early_codes rule first second s) before codes r w.planned
-        s.shape (rule_series rule first second s) labels₀ out₀ kept failed h
-
-  module _ (n : ℕ) (h : r ≡ P.Rows n) where
+  module _ (n : ℕ) (h : r ≡ Ok n) where
     pub run_many : (labels₀ out₀ : List ℕ) → max_series < n
-        → Ran (rule_outcome rule first second (length labels₀) (length out₀) s) labels₀ out₀ labels₀ out₀ Out.TooLarge
+        → Ran (rule_outcome rule first second (length labels₀) (length out₀) s) labels₀ out₀ labels₀ out₀ (Err Out.TooLarge)
     run_many labels₀ out₀ many =
         planned_too_many (rule_clash rule first second s) (rule_codes rule first second s) (early_codes rule first second s) before codes r w.planned
         n h s.shape (rule_series rule first second s) labels₀ out₀ (w.count n h) many
@@ -143,7 +137,7 @@ module _ (rule : Rule) (first second : List ℕ) (s : Sides) (held : BothHeld s)
       rows_few : length rows ≤ max_series
       rows_few = omega (arith, up_long 0 (length (take n codes)), front, few)
 
-      stands : (labels₀ out₀ labels out : List ℕ) (x : Outcome) → Ran (fit (length labels₀) (length out₀) s.shape
+      stands : (labels₀ out₀ labels out : List ℕ) (x : Result Answer Refusal) → Ran (fit (length labels₀) (length out₀) s.shape
           (map series rows)) labels₀ out₀ labels out x
           → Ran (rule_outcome rule first second (length labels₀) (length out₀) s) labels₀ out₀ labels out x
       stands labels₀ out₀ labels out x ran =
@@ -152,7 +146,7 @@ module _ (rule : Rule) (first second : List ℕ) (s : Sides) (held : BothHeld s)
           (rw front (w.series n h few)) ran
 
       module _ (labels₀ out₀ : List ℕ) (t : Tally) (tally : TallyOf (rule_labels rule first second (labelled_only s)) (take n codes) t)
-          (room : Room) (asked : room_number room ≡ room_refusal n s.shape.points t (length labels₀) (length out₀)) where
+          (room : Result ⊤ NoRoom) (asked : room_number room ≡ room_refusal n s.shape.points t (length labels₀) (length out₀)) where
         tally_here : TallyOf (rule_labels rule first second s) (take n codes) t
         tally_here = rw (labels_same rule first second s) at tally
 
@@ -162,17 +156,12 @@ module _ (rule : Rule) (first second : List ℕ) (s : Sides) (held : BothHeld s)
         as_asked : room_number room ≡ room_refusal (length rows) s.shape.points t (length labels₀) (length out₀)
         as_asked = rw (up_long 0 (length (take n codes)), front) asked
 
-        pub run_large : room ≡ Room.TooLarge
-            → Ran (rule_outcome rule first second (length labels₀) (length out₀) s) labels₀ out₀ labels₀ out₀ Out.TooLarge
-        run_large e = stands labels₀ out₀ labels₀ out₀ Out.TooLarge
-            (ran_too_large s.shape labels₀ out₀ series rows rows_few t by_number room as_asked e)
+        pub run_no_room : (why : NoRoom) → room ≡ Err why
+            → Ran (rule_outcome rule first second (length labels₀) (length out₀) s) labels₀ out₀ labels₀ out₀ (Err (refused_room why))
+        run_no_room why e = stands labels₀ out₀ labels₀ out₀ (Err (refused_room why))
+            (ran_no_room s.shape labels₀ out₀ series rows rows_few t by_number room as_asked why e)
 
-        pub run_long : room ≡ Room.TooLong
-            → Ran (rule_outcome rule first second (length labels₀) (length out₀) s) labels₀ out₀ labels₀ out₀ Out.TooLong
-        run_long e = stands labels₀ out₀ labels₀ out₀ Out.TooLong
-            (ran_too_long s.shape labels₀ out₀ series rows rows_few t by_number room as_asked e)
-
-        module _ (e : room ≡ Room.Fits) where
+        module _ (e : room ≡ Ok tt) where
           pub rows_room : length (take n codes) * s.shape.points ≤ length out₀
           rows_room = rw front (rows_fit n s.shape.points t (length labels₀) (length out₀) room asked e)
 
@@ -190,12 +179,12 @@ module _ (rule : Rule) (first second : List ℕ) (s : Sides) (held : BothHeld s)
               → RecordsPut (rule_labels rule first second (labelled_only s)) (take n codes) labels₀ labels bytes
               → out ≡ starting_with (gather (plan_row rule (rows_only s) (take n codes) marks) (up_to (length (take n codes)))) out₀
               → Ran (rule_outcome rule first second (length labels₀) (length out₀) s) labels₀ out₀ labels out
-              (Out.Answer n (in_code s.shape) bytes)
+              (Ok (record { series = n; shape = in_code s.shape; bytes = bytes }))
           run_answer bytes labels out put made =
               let here : RecordsPut (rule_labels rule first second s) (take n codes) labels₀ labels bytes = rw (labels_same rule first second s) at put in
               let same = coded_records (rule_labels rule first second s) (take n codes) in
               let count : length rows ≡ n = up_long 0 (length (take n codes)) ∙ front in
-              stands labels₀ out₀ labels out (Out.Answer n (in_code s.shape) bytes)
+              stands labels₀ out₀ labels out (Ok (record { series = n; shape = in_code s.shape; bytes = bytes }))
               (rw count at
               (ran_answer s.shape labels₀ out₀ series rows rows_few t by_number room as_asked e bytes (here.bytes ∙ ap length same) labels out
               (here.out ∙ ap (λ x. starting_with x labels₀) same)

@@ -18,9 +18,6 @@ use Rattle.join_records.specs.Records.{LabelRoom}
 use Rattle.answering.specs.declared.families.Rule.{Rule}
 use Rattle.answering.specs.families.Codes.{RecordIn, RecordsIn}
 
-pub record_there : (rule : Rule) (s : Sides) (codes : List ℕ) → RecordsIn rule s codes → (k : ℕ) → k < length codes → RecordIn rule s (get_or codes k 0)
-record_there rule s codes w k h = w.each k h
-
 -- where no record has too many tags, each has few enough
 each_narrow : (f : ℕ → Labels) (codes : List ℕ) → some_wide f codes ≡ false → (k : ℕ) → k < length codes → length (f (get_or codes k 0)).tags ≤ max_tags
 unfolding some_wide

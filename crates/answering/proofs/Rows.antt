@@ -1,6 +1,6 @@
 -- The rows of a plan, each written into its own part. Assumes nothing.
 use Prim.Native.Nat.{ℕ, ◌+◌, ◌-◌, ◌*◌, ◌≤◌, ◌<◌}
-use mathlib.Core.Path.{◌≡◌, sym, ap, ◌∙◌}
+use mathlib.Core.Path.{◌≡◌, sym, ◌∙◌}
 use mathlib.Core.List.{List}
 use native.Mathlib.Omega.{arith}
 use mir.Syntax.{w64}
@@ -13,7 +13,7 @@ use Rattle.side_parts.specs.Lent.{Sides, row_sides, BothRowsHeld}
 use Rattle.answers.specs.Outcomes.{starting_with}
 use Rattle.answers.specs.Plans.{up_to}
 use Rattle.answers.proofs.Numbering.{up_long, up_at}
-use Rattle.answers.proofs.Rows.{from_fits, to_fits, bytes_fit, RowsWriting, rows_start, rows_length, row_within, part_wide, rows_turn, rows_end}
+use Rattle.answers.proofs.Rows.{from_fits, bytes_fit, RowsWriting, rows_start, rows_length, row_within, part_wide, rows_turn, rows_end}
 use Rattle.pair_series.proofs.Widths as Pair
 use Rattle.join_series.specs.Series.{marks_of}
 use Rattle.join_series.proofs.Widths.{join_row_wide}
@@ -73,15 +73,6 @@ module _ (rule : Rule) (p : ℕ) (lkeys lrows rkeys rrows codes marks before : L
         → out ≡ starting_with (gather (plan_row rule (row_sides p lkeys lrows rkeys rrows) codes marks) (up_to (length codes))) before
     rows_put h = rows_end (plan_row rule s codes marks) p (up_to (length codes)) before k out inv.done (omega (arith, h, up_long 0 (length codes)))
 
-    pub left_made : 1024 ≡ length left
-    left_made = sym inv.left_long
-
-    pub right_made : 1024 ≡ length right
-    right_made = sym inv.right_long
-
-    pub places_made : 1024 ≡ length places
-    places_made = sym inv.places_long
-
     module _ (h : k < length codes) where
       few : length codes ≤ max_series
       few = inv.codes_in.few
@@ -92,38 +83,8 @@ module _ (rule : Rule) (p : ℕ) (lkeys lrows rkeys rrows codes marks before : L
       pub part_within : k * p + p ≤ length out
       part_within = row_within (plan_row rule s codes marks) p (up_to (length codes)) before k out inv.done inside
 
-      pub marks_within : k * 8 + 8 ≤ length marks
-      marks_within = omega (arith, h, inv.marked)
-
-      pub marks_from : Fits w64 (k * 8)
-      marks_from = omega (arith, h, few)
-
-      pub marks_to : Fits w64 (k * 8 + 8)
-      marks_to = omega (arith, h, few)
-
-      pub marks_bytes : Fits w64 (k * 8 * 8)
-      marks_bytes = omega (arith, h, few)
-
-      pub row_from : Fits w64 (k * p)
-      row_from = from_fits k p codes h few inv.held.left.narrow
-
-      pub row_to : Fits w64 (k * p + p)
-      row_to = to_fits k p codes h few inv.held.left.narrow
-
-      pub row_bytes : Fits w64 (k * p * 8)
-      row_bytes = bytes_fit k p codes h few inv.held.left.narrow
-
       wide : length (take (k * p + p - k * p) (drop (k * p) out)) ≡ p
       wide = part_wide (plan_row rule s codes marks) p (up_to (length codes)) before k out inv.done inside
-
-      pub part_held : BothRowsHeld (row_sides (length (take (k * p + p - k * p) (drop (k * p) out))) lkeys lrows rkeys rrows)
-      part_held = rw wide inv.held
-
-      pub part_code : CodeIn rule (row_sides (length (take (k * p + p - k * p) (drop (k * p) out))) lkeys lrows rkeys rrows) (get_or codes k 0)
-      part_code = rw wide (inv.codes_in.each k h)
-
-      pub eight_marks : 8 ≤ length (take (k * 8 + 8 - k * 8) (drop (k * 8) marks))
-      eight_marks = simp (length-take, length-drop) (omega (arith, marks_within))
 
       pub work_room : WorkRoom (length (take (k * p + p - k * p) (drop (k * p) out))) left right places
       work_room =

@@ -12,7 +12,7 @@ ghost use Rattle.join_plan.specs.place_plans.Places.{Clean};
 ghost use Rattle.answering.specs.families.Codes.{rule_labels, rule_row, RecordIn, CodeIn, WorkRoom, WorkKept};
 ghost use Rattle.answering.specs.families.Plans.{RulePlanned};
 
-use answers::Planned;
+use answers::Twice;
 use join_series::Work;
 use kept_labels::Size;
 use labels::Matching;
@@ -48,7 +48,7 @@ pub(crate) fn plan(
     rows: [&[u64]; 2],
     codes: &mut [usize],
     marks: &mut [usize],
-) -> Planned
+) -> Result<usize, Twice>
     requires both_held { let s = sides (shape_of shape) labels at keys rows in BothHeld s }
     requires codes_len { length codes.old ≡ max_series }
     requires marks_len { length marks.old ≡ 4096 }
@@ -62,10 +62,8 @@ pub(crate) fn plan(
         Rule::Join(w) => {
             join_plan::plan_join(w, lists, shape, labels, at, keys, rows, codes, marks)
         }
-        Rule::Set(op) => {
-            Planned::Rows(set_plan::plan_set(op, shape, labels, at, keys, rows, codes))
-        }
-        Rule::Groups(g) => Planned::Rows(group_plan::plan_groups(keys[0], codes)),
+        Rule::Set(op) => { Ok(set_plan::plan_set(op, shape, labels, at, keys, rows, codes)) }
+        Rule::Groups(g) => Ok(group_plan::plan_groups(keys[0], codes)),
     }
 }
 

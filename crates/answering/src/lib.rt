@@ -14,7 +14,7 @@ ghost use Rattle.answers.specs.Plans.{up_to};
 ghost use Rattle.answering.specs.families.Codes.{rule_labels, plan_row, RecordsIn, CodesIn};
 ghost use Rattle.answering.specs.families.Plans.{rule_outcome};
 
-use answers::{Outcome, Planned, Room, Tally};
+use answers::{Answer, Outcome, Refusal, Tally};
 pub use families::{Groups, Rule};
 use operator::Operator;
 use side_parts::Shape;
@@ -36,10 +36,8 @@ fn tally(
         bytes: 0,
         too_many_tags: false,
     };
-    let mut k: usize = 0;
-    while k < codes.len() {
-        t = answers::tallied(t, families::record_size(rule, lists, labels, at, codes[k]));
-        k += 1;
+    for code in codes {
+        t = answers::tallied(t, families::record_size(rule, lists, labels, at, *code));
     }
     t
 }
@@ -64,10 +62,8 @@ fn put_records(
         out.new result }
 {
     let mut o: usize = 0;
-    let mut k: usize = 0;
-    while k < codes.len() {
-        o = families::put_record(rule, lists, labels, at, codes[k], out, o);
-        k += 1;
+    for code in codes {
+        o = families::put_record(rule, lists, labels, at, *code, out, o);
     }
     o
 }
@@ -94,8 +90,7 @@ fn put_rows(
     let mut left_work = [0u64; 1024];
     let mut right_work = [0u64; 1024];
     let mut places = [0usize; 1024];
-    let mut k: usize = 0;
-    while k < codes.len() {
+    for k in 0..codes.len() {
         let first = k * 8;
         let last = first + 8;
         let from = k * p;
@@ -111,7 +106,6 @@ fn put_rows(
             &mut places,
             &mut out[from..to],
         );
-        k += 1;
     }
 }
 
@@ -136,31 +130,21 @@ pub fn run(
 {
     let mut codes = [0usize; 512];
     let mut marks = [0usize; 4096];
-    match families::plan(
+    let n = families::plan(
         rule, lists, shape, labels, at, keys, rows, &mut codes, &mut marks,
-    ) {
-        Planned::LeftTwice { kept, failed } => Outcome::LeftTwice { kept, failed },
-        Planned::RightTwice { kept, failed } => Outcome::RightTwice { kept, failed },
-        Planned::Rows(n) => {
-            if Operator::MAX_SERIES < n {
-                return Outcome::TooLarge;
-            }
-            let p = shape.points;
-            let listed = &codes[..n];
-            let t = tally(rule, lists, labels, at, listed);
-            match answers::room_for(n, p, t, out_labels.len(), out.len()) {
-                Room::TooLarge => Outcome::TooLarge,
-                Room::TooLong => Outcome::TooLong,
-                Room::Fits => {
-                    put_rows(rule, p, keys, rows, listed, &marks, out);
-                    let bytes = put_records(rule, lists, labels, at, listed, out_labels);
-                    Outcome::Answer {
-                        series: n,
-                        shape,
-                        bytes,
-                    }
-                }
-            }
-        }
+    )?;
+    if Operator::MAX_SERIES < n {
+        return Err(Refusal::TooLarge);
     }
+    let p = shape.points;
+    let listed = &codes[..n];
+    let t = tally(rule, lists, labels, at, listed);
+    answers::room_for(n, p, t, out_labels.len(), out.len())?;
+    put_rows(rule, p, keys, rows, listed, &marks, out);
+    let bytes = put_records(rule, lists, labels, at, listed, out_labels);
+    Ok(Answer {
+        series: n,
+        shape,
+        bytes,
+    })
 }

@@ -4,4 +4,3 @@ pub mod Rows
 pub mod Concluding
 pub mod Planning
 pub mod Numbering
-pub mod Telling

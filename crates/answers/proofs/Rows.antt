@@ -24,9 +24,6 @@ module _ (r p : ℕ) (rows : List ℕ) (h : r < length rows) (k : length rows �
   pub from_fits : Fits w64 (r * p)
   from_fits = omega (arith, most)
 
-  pub to_fits : Fits w64 (r * p + p)
-  to_fits = omega (arith, most)
-
   pub bytes_fit : Fits w64 (r * p * 8)
   bytes_fit = omega (arith, most)
 

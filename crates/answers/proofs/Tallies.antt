@@ -3,57 +3,21 @@ use Prim.Native.Nat.{ℕ, suc, ◌+◌, ◌*◌, ◌≤◌, ◌<◌}
 use mathlib.Core.Path.{◌≡◌, refl, sym, ap, ◌∙◌}
 use mathlib.Core.Bool.{Bool, true, false, ◌||◌, cond}
 use mathlib.Core.List.{List}
-use native.Mathlib.Nat.{mul-le-mul}
 use native.Mathlib.Numerals.{add-one}
 use native.Mathlib.Omega.{arith}
-use mir.Syntax.{w64}
-use mir.Val.{Fits}
 use lib.Dec.{ltb}
 use lib.ListN.{length, get_or, drop, length-append, drop_of_length-le}
 use lib.Seq.{drop-cons}
-use borrow.Author.Tests.{lt-ltb, le-ltb, ltb-false}
-use Rattle.model.specs.Limits.{max_series, max_points, max_tags, max_label_bytes}
+use borrow.Author.Tests.{ltb-false}
+use Rattle.model.specs.Limits.{max_series, max_tags, max_label_bytes}
 use Rattle.model.specs.Labels.{Labels}
 use Rattle.model.specs.Record.{encode}
 use Rattle.kept_labels.specs.declared.Size.{Size}
 use Rattle.answers.specs.declared.Tally.{Tally}
-use Rattle.answers.specs.declared.Room.{Room}
-use Rattle.answers.specs.declared.Room.TheVariants as Room
+use Rattle.std.specs.Prelude.{Result, Ok, ⊤}
+use Rattle.answers.specs.declared.NoRoom.{NoRoom}
 use Rattle.answers.specs.Tallies.{most_of_record, most_bytes, SizedRecord, no_tally, with_size}
 use Rattle.answers.specs.Tallies.{records_of, some_wide, TallyOf, room_number, room_refusal}
-
--- `tallied`
-
-module _ (t : Tally) (z : Size) where
-  pub tallied_wide : t.too_many_tags ≡ true → (record { bytes = t.bytes + z.bytes; too_many_tags = true }) ≡ with_size t z
-  tallied_wide h = rw h
-
-  pub tallied_more : t.too_many_tags ≡ false → (record { bytes = t.bytes + z.bytes; too_many_tags = ltb max_tags z.tags }) ≡ with_size t z
-  tallied_more h = rw h
-
--- `room_for`
-
-module _ (n p : ℕ) (t : Tally) (labels readings : ℕ) where
-  pub room_product : n ≤ max_series → p ≤ max_points → Fits w64 (n * p)
-  room_product h k = let most : n * p ≤ 512 * 1024 = mul-le-mul h k in omega arith
-
-  pub room_wide : t.too_many_tags ≡ true → room_number Room.TooLarge ≡ room_refusal n p t labels readings
-  room_wide h = rw h
-
-  module _ (h : t.too_many_tags ≡ false) where
-    pub room_large : max_label_bytes < t.bytes → room_number Room.TooLarge ≡ room_refusal n p t labels readings
-    room_large k = rw (h, lt-ltb max_label_bytes t.bytes k)
-
-    module _ (k : t.bytes ≤ max_label_bytes) where
-      pub room_labels_long : labels < t.bytes → room_number Room.TooLong ≡ room_refusal n p t labels readings
-      room_labels_long a = rw (h, le-ltb max_label_bytes t.bytes k, lt-ltb labels t.bytes a)
-
-      module _ (a : t.bytes ≤ labels) where
-        pub room_readings_long : readings < n * p → room_number Room.TooLong ≡ room_refusal n p t labels readings
-        room_readings_long b = rw (h, le-ltb max_label_bytes t.bytes k, le-ltb labels t.bytes a, lt-ltb readings (n * p) b)
-
-        pub room_fits : n * p ≤ readings → room_number Room.Fits ≡ room_refusal n p t labels readings
-        room_fits b = rw (h, le-ltb max_label_bytes t.bytes k, le-ltb labels t.bytes a, le-ltb readings (n * p) b)
 
 -- the room that an answer has is enough for its records and its rows
 
@@ -77,7 +41,7 @@ neither_second false false true h = absurd (omega arith)
 neither_second false false false h = refl
 
 module _ (n p : ℕ) (t : Tally) (labels readings : ℕ)
-    (room : Room) (asked : room_number room ≡ room_refusal n p t labels readings) (h : room ≡ Room.Fits) where
+    (room : Result ⊤ NoRoom) (asked : room_number room ≡ room_refusal n p t labels readings) (h : room ≡ Ok tt) where
   large : Bool
   large = t.too_many_tags || ltb max_label_bytes t.bytes
 
@@ -128,9 +92,6 @@ module _ (f : ℕ → Labels) (rows : List ℕ) where
       wide_step : some_wide f (drop r rows) ≡ (ltb max_tags z.tags || some_wide f (drop (r + 1) rows))
       unfolding some_wide
       wide_step = rw (drop-cons rows r 0 h, add-one r, s.sized.tags)
-
-      pub tally_room : t.bytes + z.bytes ≤ most_bytes
-      tally_room = omega (arith, inv.small, inv.few, s.small)
 
       pub tally_turn : (t' : Tally) → t' ≡ with_size t z → Tallying f rows (r + 1) t'
       tally_turn t' e =

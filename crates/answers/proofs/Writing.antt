@@ -39,9 +39,6 @@ module _ (part : ℕ → List ℕ) (rows d₀ : List ℕ) where
             rest = rest_put d₀ 0 (gather part rows) d o (part (get_or rows r 0)) (gather part (drop (r + 1) rows)) d' o' next p;
           }
 
-    pub writing_length : length d ≡ length d₀
-    writing_length = inv.rest.size
-
     module _ (h : length rows ≤ r) where
       whole : Put d₀ 0 (gather part rows) d o
       whole = rest_done d₀ 0 (gather part rows) d o (rw (drop_of_length-le rows h) at inv.rest)

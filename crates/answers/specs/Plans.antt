@@ -1,11 +1,11 @@
 -- What the code's plans come to: a clash, or the codes of the answer's rows in a list. Assumes nothing.
-use Rattle.std.specs.Prelude.{ℕ, zero, suc, ◌≡◌, List, [], ◌∷◌, length}
+use Rattle.std.specs.Prelude.{ℕ, zero, suc, ◌≡◌, List, [], ◌∷◌, length, Result, Ok, Err}
 use Rattle.std.proofs.Math.Option.{Option, none, some}
 use Rattle.std.proofs.lemmas.List.Edits.{sets}
 use Rattle.model.specs.Query.{Side, left, right}
 use Rattle.semantics.specs.Events.{Duplicate}
-use Rattle.answers.specs.declared.Planned.{Planned}
-use Rattle.answers.specs.declared.Planned.TheVariants.{Rows, LeftTwice, RightTwice}
+use Rattle.answers.specs.declared.Twice.{Twice}
+use Rattle.answers.specs.declared.Twice.TheVariants.{Left, Right}
 
 -- how many rows the answer has, or the first clash
 pub data Plan : Type 0 where
@@ -15,10 +15,13 @@ pub data Plan : Type 0 where
 abbrev pub duplicate : Side → ℕ → ℕ → Duplicate
 duplicate side kept failed = record { kept = record { side = side; number = kept }; failed = record { side = side; number = failed } }
 
-abbrev pub told_plan : Planned → Plan
-told_plan (Rows n) = rows n
-told_plan (LeftTwice kept failed) = clashes (duplicate left kept failed)
-told_plan (RightTwice kept failed) = clashes (duplicate right kept failed)
+abbrev pub duplicate_of : Twice → Duplicate
+duplicate_of (Left clash) = duplicate left clash.kept clash.failed
+duplicate_of (Right clash) = duplicate right clash.kept clash.failed
+
+abbrev pub told_plan : Result ℕ Twice → Plan
+told_plan (Ok n) = rows n
+told_plan (Err t) = clashes (duplicate_of t)
 
 abbrev pub wanted_plan : Option Duplicate → List ℕ → Plan
 wanted_plan none codes = rows (length codes)
@@ -30,7 +33,7 @@ noted_by none codes early = codes
 noted_by (some d) codes early = early
 
 -- a plan that is to come to a first clash, or to codes, answers r; codes are noted from the start of the list, as far as it goes
-pub record PlannedAs (clash : Option Duplicate) (codes early before after : List ℕ) (r : Planned) : Type 0 where
+pub record PlannedAs (clash : Option Duplicate) (codes early before after : List ℕ) (r : Result ℕ Twice) : Type 0 where
   pub told : told_plan r ≡ wanted_plan clash codes
   pub list : after ≡ sets before 0 (noted_by clash codes early)
 

@@ -1,6 +1,6 @@
 -- What an answer takes, whether it fits, and what writing its records leaves. A row of an answer is a number, its code;
 -- f gives the labels of a code. Assumes nothing.
-use Rattle.std.specs.Prelude.{ℕ, ◌+◌, ◌*◌, ◌≤◌, ◌≡◌, Bool, false, ◌||◌, cond, List, [], ◌∷◌, ltb, length}
+use Rattle.std.specs.Prelude.{ℕ, ◌+◌, ◌*◌, ◌≤◌, ◌≡◌, Bool, false, ◌||◌, cond, List, [], ◌∷◌, ltb, length, Result, Ok, Err, ⊤}
 use Rattle.model.specs.Limits.{max_tags, max_label_bytes}
 use Rattle.model.specs.Lists.{gather}
 use Rattle.model.specs.Labels.{Labels}
@@ -8,8 +8,8 @@ use Rattle.model.specs.Record.{encode}
 use Rattle.kept_labels.specs.declared.Size.{Size}
 use Rattle.kept_labels.specs.Edited.{Sized}
 use Rattle.answers.specs.declared.Tally.{Tally}
-use Rattle.answers.specs.declared.Room.{Room}
-use Rattle.answers.specs.declared.Room.TheVariants.{Fits, TooLarge, TooLong}
+use Rattle.answers.specs.declared.NoRoom.{NoRoom}
+use Rattle.answers.specs.declared.NoRoom.TheVariants.{TooLarge, TooLong}
 use Rattle.answers.specs.Outcomes.{starting_with}
 
 -- the bytes that an edited record has at most: those of two label arrays, and of a name, a count and lengths
@@ -52,10 +52,10 @@ pub record TallyOf (f : ℕ → Labels) (rows : List ℕ) (t : Tally) : Type 0 w
   pub wide : t.too_many_tags ≡ some_wide f rows
 
 -- 01's number of the code's answers, 0 where nothing is refused
-abbrev pub room_number : Room → ℕ
-room_number Fits = 0
-room_number TooLarge = 9
-room_number TooLong = 10
+abbrev pub room_number : Result ⊤ NoRoom → ℕ
+room_number (Ok _) = 0
+room_number (Err TooLarge) = 9
+room_number (Err TooLong) = 10
 
 -- 01: 9, the answer has over 32 tags or 65,535 label bytes; then 10, it is longer than a lent output part.
 -- The number for an answer of at most 512 series, 0 where it fits.

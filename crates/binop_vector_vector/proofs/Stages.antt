@@ -1,11 +1,9 @@
 -- What each stage of a call comes to, by what taking found. Assumes nothing.
-use Prim.Native.Nat.{ℕ, ◌+◌, ◌-◌, ◌≤◌, ◌<◌}
+use Prim.Native.Nat.{ℕ, ◌+◌, ◌-◌, ◌≤◌}
+use Rattle.std.specs.Prelude.{Result, Ok, Err}
 use mathlib.Core.Path.{◌≡◌, refl, sym, ◌∙◌}
 use mathlib.Core.Bool.{Bool, true, false, not}
-use mathlib.Core.List.{List, [], ◌∷◌, ◌++◌}
-use mathlib.Core.Logic.{inl, inr}
-use types.Run.{OneOf}
-use denote.Enum.Declared.{tag_of}
+use mathlib.Core.List.{List, ◌++◌}
 use native.Mathlib.Omega.{arith}
 use lib.ListN.{length, take, drop, length-append}
 use lib.Seq.{length-take-le, take_at}
@@ -17,111 +15,67 @@ use Rattle.model.specs.Vector.{Shape, Vector}
 use Rattle.semantics.specs.Call as Call
 use Rattle.semantics.specs.Call.{running, same_grid, call}
 use Rattle.query.specs.declared.Query.{Query}
-use Rattle.query.specs.declared.Request.{Request}
-use Rattle.query.specs.declared.Request.TheVariants as R
+use Rattle.query.specs.declared.QueryError.{QueryError}
+use Rattle.query.specs.declared.QueryError.TheVariants as E
 use Rattle.query.specs.Queries.{query_of, request_number, matching_part, TakenAs}
-use Rattle.query.specs.contracts.Request.{the_type as request-type}
 use Rattle.query.proofs.Takes.{query_taken, operator_refused, query_malformed, allowance_refused}
-use Rattle.answers.specs.declared.Outcome.{Outcome}
-use Rattle.answers.specs.declared.Outcome.TheVariants as Out
-use Rattle.answers.specs.Outcomes.{Ran, told, refusal}
+use Rattle.answers.specs.declared.Answer.{Answer}
+use Rattle.answers.specs.declared.Refusal.{Refusal}
+use Rattle.answers.specs.declared.Refusal.TheVariants as Out
+use Rattle.answers.specs.Outcomes.{Ran, refused_query}
 use Rattle.operator.specs.Kinds.{kind_of}
 use Rattle.labels.specs.Names.{names_of}
 use Rattle.labels.specs.Matchings.{matching_of}
-use Rattle.side_parts.specs.declared.Shape as Code
-use Rattle.side_parts.specs.Lent.{Sides, shape_of, BothHeld}
+use Rattle.side_parts.specs.Lent.{Sides, BothHeld}
 use Rattle.keyed_sides.specs.Keyed.{drops_missing, KeysKept, SidesKeyed, with_keys, kept_keyed_by}
 use Rattle.keyed_sides.specs.TakenSides.{TakenSide, lent_vector, Took}
 use Rattle.vector_faults.proofs.Faults.{ran_taken_lem}
 use Rattle.binop_vector_vector.specs.dispatch.Runs.{Asked, ran_taken}
 use Rattle.binop_vector_vector.specs.Stages.{asked_carried, left_stage, right_stage, call_asked, call_operator, call_malformed, call_allowance}
 
--- `refusal_of`
-
-module _ (r : Request) where
-  pub refusal_operator : r ≡ R.BadOperator → told Out.BadOperator ≡ refusal (request_number r) 0 0
-  refusal_operator e = rw e
-
-  pub refusal_malformed : r ≡ R.Malformed → told Out.Malformed ≡ refusal (request_number r) 0 0
-  refusal_malformed e = rw e
-
-  pub refusal_allowance : r ≡ R.BadAllowance → told Out.BadAllowance ≡ refusal (request_number r) 0 0
-  refusal_allowance e = rw e
-
-pub refusal_none : (r : Request) {A : Type 0} → 0 < request_number r → tag_of request-type r ≡ 0 → A
-refusal_none (R.Asked q) h e = absurd (omega (arith, h))
-refusal_none R.BadOperator h e = absurd (omega (arith, e))
-refusal_none R.Malformed h e = absurd (omega (arith, e))
-refusal_none R.BadAllowance h e = absurd (omega (arith, e))
-
 -- a query that is refused, or taken
 
-pub refused_number : (r : Request) → OneOf (1 ∷ 2 ∷ 3 ∷ []) (tag_of request-type r) → 0 < request_number r
-refused_number (R.Asked q) h = absurd (not_zero h)
-  where
-    not_zero : OneOf (1 ∷ 2 ∷ 3 ∷ []) 0 → ⊥
-    not_zero (inl e) = omega (arith, e)
-    not_zero (inr (inl e)) = omega (arith, e)
-    not_zero (inr (inr e)) = omega (arith, e)
-refused_number R.BadOperator h = omega arith
-refused_number R.Malformed h = omega arith
-refused_number R.BadAllowance h = omega arith
+module _ (s : List ℕ) (labels readings labels' readings' labels₀ out₀ : List ℕ) where
+  pub ran_refused : (e : QueryError) → TakenAs s (Model.take_query s) (Err e)
+      → Ran (call s labels readings labels' readings' (length labels₀) (length out₀)) labels₀ out₀ labels₀ out₀ (Err (refused_query e))
+  ran_refused E.BadOperator h = rw
+      (call_operator s labels readings labels' readings' (length labels₀) (length out₀) (operator_refused s (Model.take_query s) h))
+      (record { outcome = refl; label_part = refl; reading_part = refl })
+  ran_refused E.Malformed h = rw
+      (call_malformed s labels readings labels' readings' (length labels₀) (length out₀) (query_malformed s (Model.take_query s) h))
+      (record { outcome = refl; label_part = refl; reading_part = refl })
+  ran_refused E.BadAllowance h = rw
+      (call_allowance s labels readings labels' readings' (length labels₀) (length out₀) (allowance_refused s (Model.take_query s) h))
+      (record { outcome = refl; label_part = refl; reading_part = refl })
 
-module _ (s : List ℕ) (r : Request) (h : TakenAs s (Model.take_query s) r) where
-  module _ (q : Query) (e : r ≡ R.Asked q) where
-    asked_as : Model.take_query s ≡ Model.query (query_of s q)
-    asked_as = query_taken s (Model.take_query s) q (rw e at h)
+module _ (s : List ℕ) (q : Query) (h : TakenAs s (Model.take_query s) (Ok q)) where
+  asked_as : Model.take_query s ≡ Model.query (query_of s q)
+  asked_as = query_taken s (Model.take_query s) q h
 
-    pub asked : Asked s q
-    asked = record { within = h.within q e; carried = asked_carried s q asked_as }
+  pub asked : Asked s q
+  asked = record { within = h.within q refl; carried = asked_carried s q asked_as }
 
-  module _ (labels readings labels' readings' labels₀ out₀ : List ℕ) where
-    pub ran_refused : (x : Outcome) → 0 < request_number r → told x ≡ refusal (request_number r) 0 0
-        → Ran (call s labels readings labels' readings' (length labels₀) (length out₀)) labels₀ out₀ labels₀ out₀ x
-    ran_refused x n e = by r refl n e
-      where
-        by : (r' : Request) → r ≡ r' → 0 < request_number r' → told x ≡ refusal (request_number r') 0 0
-            → Ran (call s labels readings labels' readings' (length labels₀) (length out₀)) labels₀ out₀ labels₀ out₀ x
-        by (R.Asked q) y n t = absurd (omega (arith, n))
-        by R.BadOperator y n t = rw
-            (call_operator s labels readings labels' readings' (length labels₀) (length out₀) (operator_refused s (Model.take_query s) (rw y at h)))
-            (record { outcome = t; label_part = refl; reading_part = refl })
-        by R.Malformed y n t = rw
-            (call_malformed s labels readings labels' readings' (length labels₀) (length out₀) (query_malformed s (Model.take_query s) (rw y at h)))
-            (record { outcome = t; label_part = refl; reading_part = refl })
-        by R.BadAllowance y n t = rw
-            (call_allowance s labels readings labels' readings' (length labels₀) (length out₀) (allowance_refused s (Model.take_query s) (rw y at h)))
-            (record { outcome = t; label_part = refl; reading_part = refl })
-
-    pub ran_asked : (q : Query) → r ≡ R.Asked q → (d o : List ℕ) (x : Outcome)
-        → Ran (left_stage (query_of s q) labels readings labels' readings' (length labels₀) (length out₀)) labels₀ out₀ d o x
-        → Ran (call s labels readings labels' readings' (length labels₀) (length out₀)) labels₀ out₀ d o x
-    ran_asked q e d o x k = rw (call_asked s labels readings labels' readings' (length labels₀) (length out₀) (query_of s q) (asked_as q e)) k
-
--- `grids_differ`
-module _ (left right : Code.Shape) where
-  pub starts_differ : (left.start ≡ right.start → ⊥) → true ≡ not (same_grid (shape_of left) (shape_of right))
-  starts_differ h = rw (ne_eqb left.start right.start h)
-
-  pub steps_differ : left.start ≡ right.start
-      → not (eqb left.step right.step) ≡ not (same_grid (shape_of left) (shape_of right))
-  steps_differ h = rw (eq-eqb left.start right.start h)
+  pub ran_asked : (labels readings labels' readings' labels₀ out₀ d o : List ℕ) (x : Result Answer Refusal)
+      → Ran (left_stage (query_of s q) labels readings labels' readings' (length labels₀) (length out₀)) labels₀ out₀ d o x
+      → Ran (call s labels readings labels' readings' (length labels₀) (length out₀)) labels₀ out₀ d o x
+  ran_asked labels readings labels' readings' labels₀ out₀ d o x k =
+      rw (call_asked s labels readings labels' readings' (length labels₀) (length out₀) (query_of s q) asked_as) k
 
 -- 01: 6, the sides' p differ; 02: 12, the sides' grids differ, .. after number 6
 module _ (q : Model.Query) (shape : Shape) (array at rows : List ℕ) (other : Shape) (array' at' rows' labels₀ out₀ : List ℕ) where
   abbrev runs : Call.Outcome
   runs = running (length labels₀) (length out₀) q (lent_vector shape array at rows) (lent_vector other array' at' rows')
 
-  ran_unequal : (other.points ≡ shape.points → ⊥) → Ran runs labels₀ out₀ labels₀ out₀ Out.Unequal
+  ran_unequal : (other.points ≡ shape.points → ⊥) → Ran runs labels₀ out₀ labels₀ out₀ (Err Out.Unequal)
   unfolding running
   ran_unequal h = rw (ne_eqb shape.points other.points (λ e. h (sym e))) (record { outcome = refl; label_part = refl; reading_part = refl })
 
-  ran_differing : other.points ≡ shape.points → same_grid shape other ≡ false → Ran runs labels₀ out₀ labels₀ out₀ Out.GridsDiffer
+  ran_differing : other.points ≡ shape.points → same_grid shape other ≡ false → Ran runs labels₀ out₀ labels₀ out₀ (Err Out.GridsDiffer)
   unfolding running
   ran_differing e g =
       rw (eq-eqb shape.points other.points (sym e), g) (record { outcome = refl; label_part = refl; reading_part = refl })
 
-  ran_equal : other.points ≡ shape.points → same_grid shape other ≡ true → (d o : List ℕ) (y : Outcome)
+  ran_equal : other.points ≡ shape.points → same_grid shape other ≡ true → (d o : List ℕ) (y : Result Answer Refusal)
       → Ran (ran_taken q shape array at rows array' at' rows' (length labels₀) (length out₀)) labels₀ out₀ d o y → Ran runs labels₀ out₀ d o y
   unfolding running
   ran_equal e g d o y k = rw (e, eq-eqb shape.points shape.points refl, g) k
@@ -136,29 +90,29 @@ module _ (s x after : List ℕ) (n : ℕ) (shape : Shape) (l : Took 0 s x after 
   abbrev rights : Vector
   rights = lent_vector other (take (length s' - sizes_length) (drop sizes_length s')) (take (n' + 1) after') x'
 
-  ran_both : (d o : List ℕ) (y : Outcome) → Ran (running (length labels₀) (length out₀) q lefts rights) labels₀ out₀ d o y
+  ran_both : (d o : List ℕ) (y : Result Answer Refusal) → Ran (running (length labels₀) (length out₀) q lefts rights) labels₀ out₀ d o y
       → Ran (left_stage q s x s' x' (length labels₀) (length out₀)) labels₀ out₀ d o y
   ran_both d o y k =
       ran_taken_lem 0 s x (λ v. right_stage q v s' x' (length labels₀) (length out₀)) labels₀ out₀ after n shape l d o y
       (ran_taken_lem 1 s' x' (λ v. running (length labels₀) (length out₀) q lefts v) labels₀ out₀ after' n' other r d o y k)
 
   pub ran_apart : (other.points ≡ shape.points → ⊥)
-      → Ran (left_stage q s x s' x' (length labels₀) (length out₀)) labels₀ out₀ labels₀ out₀ Out.Unequal
+      → Ran (left_stage q s x s' x' (length labels₀) (length out₀)) labels₀ out₀ labels₀ out₀ (Err Out.Unequal)
   ran_apart h =
-      ran_both labels₀ out₀ Out.Unequal
+      ran_both labels₀ out₀ (Err Out.Unequal)
       (ran_unequal q shape (take (length s - sizes_length) (drop sizes_length s)) (take (n + 1) after) x other
       (take (length s' - sizes_length) (drop sizes_length s')) (take (n' + 1) after') x' labels₀ out₀ h)
 
   module _ (h : other.points ≡ shape.points) (b : Bool) (tested : b ≡ not (same_grid shape other)) where
     pub ran_on_two_grids : b ≡ true
-        → Ran (left_stage q s x s' x' (length labels₀) (length out₀)) labels₀ out₀ labels₀ out₀ Out.GridsDiffer
+        → Ran (left_stage q s x s' x' (length labels₀) (length out₀)) labels₀ out₀ labels₀ out₀ (Err Out.GridsDiffer)
     ran_on_two_grids e =
-        ran_both labels₀ out₀ Out.GridsDiffer
+        ran_both labels₀ out₀ (Err Out.GridsDiffer)
         (ran_differing q shape (take (length s - sizes_length) (drop sizes_length s)) (take (n + 1) after) x other
         (take (length s' - sizes_length) (drop sizes_length s')) (take (n' + 1) after') x' labels₀ out₀ h
         (not-true (same_grid shape other) (sym tested ∙ e)))
 
-    pub ran_alike : b ≡ false → (d o : List ℕ) (y : Outcome)
+    pub ran_alike : b ≡ false → (d o : List ℕ) (y : Result Answer Refusal)
         → Ran (ran_taken q shape (take (length s - sizes_length) (drop sizes_length s)) (take (n + 1) after) x
         (take (length s' - sizes_length) (drop sizes_length s')) (take (n' + 1) after') x'
         (length labels₀) (length out₀)) labels₀ out₀ d o y

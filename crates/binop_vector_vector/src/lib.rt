@@ -3,46 +3,29 @@
 
 mod dispatch; // the rule of an operator over both sides
 
-ghost use Rattle.std.specs.Prelude.{◌≡◌, not, ◌<◌, length};
+ghost use Rattle.std.specs.Prelude.{◌≡◌, not, length};
 ghost use Rattle.operator.specs.Kinds.{kind_of};
 ghost use Rattle.labels.specs.Names.{names_of};
 ghost use Rattle.labels.specs.Matchings.{matching_of};
-ghost use Rattle.query.specs.Queries.{query_of, request_number};
+ghost use Rattle.query.specs.Queries.{query_of};
 ghost use Rattle.semantics.specs.Call.{call, same_grid};
 ghost use Rattle.side_parts.specs.Lent.{lent, BothHeld, shape_of};
-ghost use Rattle.answers.specs.Outcomes.{Ran, told, refusal};
+ghost use Rattle.answers.specs.Outcomes.{Ran};
 ghost use Rattle.keyed_sides.specs.TakenSides.{TakenSide};
 ghost use Rattle.keyed_sides.specs.Keyed.{drops_missing, KeysKept};
 ghost use Rattle.binop_vector_vector.specs.dispatch.Runs.{Asked, sides_with, ran_taken};
 
-use answers::Outcome;
+use answers::{Outcome, Refusal};
 use labels::Matching;
 use operator::Operator;
-use query::{Query, Request};
+use query::Query;
 use side_parts::Shape;
-use timeseries::Taken;
-
-// Why a query was refused.
-fn refusal_of(asked: Request) -> Outcome
-    requires { 0 < request_number asked }
-    ensures { told result ≡ refusal (request_number asked) 0 0 }
-{
-    match asked {
-        Request::BadOperator => Outcome::BadOperator,
-        Request::Malformed => Outcome::Malformed,
-        Request::BadAllowance => Outcome::BadAllowance,
-        Request::Asked(_) => Outcome::Malformed,
-    }
-}
 
 // Whether two sides lie on different grids.
 fn grids_differ(left: Shape, right: Shape) -> bool
     ensures { result ≡ not (same_grid (shape_of left) (shape_of right)) }
 {
-    if left.start != right.start {
-        return true;
-    }
-    left.step != right.step
+    left.start != right.start || left.step != right.step
 }
 
 // Numbers the keys of both sides' series that take part under an operator.
@@ -135,36 +118,27 @@ pub fn exec_binop<'a>(
         right.now (length labels.old) (length out.old))
         labels.old out.old labels.new out.new result }
 {
-    let asked = query::take_query(query);
-    let Request::Asked(q) = asked else {
-        return refusal_of(asked);
-    };
+    let q = query::take_query(query)?;
     let mut left_at = [0usize; 513];
-    let l = timeseries::take_vector(left_labels, left, &mut left_at);
-    let Taken::Vector { series: n, shape } = l else {
-        return vector_faults::fault_of(0, l);
-    };
+    let l = timeseries::take_vector(left_labels, left, &mut left_at).map_err(
+        |fault| vector_faults::fault_of(0, fault),
+    )?;
     let mut right_at = [0usize; 513];
-    let r = timeseries::take_vector(right_labels, right, &mut right_at);
-    let Taken::Vector {
-        series: m,
-        shape: other,
-    } = r
-    else {
-        return vector_faults::fault_of(1, r);
-    };
-    if other.points != shape.points {
-        return Outcome::Unequal;
+    let r = timeseries::take_vector(right_labels, right, &mut right_at).map_err(
+        |fault| vector_faults::fault_of(1, fault),
+    )?;
+    if r.shape.points != l.shape.points {
+        return Err(Refusal::Unequal);
     }
-    if grids_differ(shape, other) {
-        return Outcome::GridsDiffer;
+    if grids_differ(l.shape, r.shape) {
+        return Err(Refusal::GridsDiffer);
     }
-    let e = n + 1;
-    let f = m + 1;
+    let e = l.series + 1;
+    let f = r.series + 1;
     run(
         query,
         q,
-        shape,
+        l.shape,
         [
             &left_labels[Operator::SIZES_LENGTH..],
             &right_labels[Operator::SIZES_LENGTH..],

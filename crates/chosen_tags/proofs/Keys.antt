@@ -1,11 +1,11 @@
--- `is_chosen`, and the loops of `same_key`, `hash_bytes` and `hash_key`. Assumes nothing.
-use Prim.Native.Nat.{ℕ, ◌≤◌, ◌<◌, ◌+◌, ◌-◌}
-use mathlib.Core.Path.{◌≡◌, refl, sym, ◌∙◌}
+-- `is_chosen`, and walks of the tags of a key: chosen, compared, and hashed. Assumes nothing.
+use Prim.Native.Nat.{ℕ, suc, ◌≤◌, ◌<◌, ◌+◌}
+use mathlib.Core.Path.{◌≡◌, refl, sym, ap, ◌∙◌}
 use mathlib.Core.List.{List, [], ◌∷◌, ◌++◌}
 use mathlib.Core.Bool.{Bool, true, false, not, ◌&&◌}
 use native.Mathlib.Omega.{arith}
 use native.Mathlib.Numerals.{add-one}
-use lib.ListN.{length, get_or, take, drop, drop_of_length-le}
+use lib.ListN.{length, get_or, drop, drop_of_length-le}
 use lib.Seq.{drop-cons}
 use lib.Dec.{eqb}
 use borrow.Author.Tests.{eqb-true, eqb-false}
@@ -13,16 +13,15 @@ use Rattle.model.specs.Lists.{cases}
 use Rattle.model.specs.Labels.{Tag, same_bytes, same_tags}
 use Rattle.model.specs.Record.{encode_field, encode_tags}
 use Rattle.model.specs.Edits.{Names, is_listed}
-use Rattle.record_tags.specs.Lenient.{tags_up_to, labels_of}
-use Rattle.record_tags.specs.Cursors.{encode_tag, encode_tag_lem, tag_at, chosen_from, NextAt}
+use Rattle.std.specs.Prelude.{Some, None, is_some}
+use Rattle.std.specs.declared.option.Option.{Option}
+use Rattle.std.specs.Iterator.{YieldsFirstBy}
+use Rattle.record_tags.specs.declared.tag_parts.Tag as T
+use Rattle.record_tags.specs.Cursors.{encode_tag, encode_tag_lem, tag_of}
 use Rattle.labels.specs.Matchings.{matching_of}
 use Rattle.chosen_tags.specs.Keys.{is_chosen, hash_byte, hash_bytes, hash_of, hash_append}
 use Rattle.labels.specs.declared.Matching.{Matching}
 use Rattle.labels.specs.declared.Matching.TheVariants.{On, Ignoring}
-use Rattle.record_tags.specs.declared.Next.{Next}
-use Rattle.record_tags.specs.declared.Next.TheVariants as N
-use Rattle.fields.proofs.Bytes.{lengths_differ}
-use Rattle.record_tags.proofs.Cursors.{next_stands, next_tags, next_ended}
 
 module _ (m : Matching) (ns : Names) (k : List ℕ) (r : Bool) (hr : r ≡ is_listed ns k) where
   pub chosen_on : m ≡ On → r ≡ is_chosen (matching_of m) ns k
@@ -36,6 +35,17 @@ and_assoc true q r = refl
 and_assoc false q r = refl
 
 -- two tags are the same where their bytes are: each field begins with its length
+
+lengths_differ : (a b : List ℕ) → (length a ≡ length b → ⊥) → same_bytes a b ≡ false
+unfolding same_bytes
+lengths_differ [] [] h = absurd (h refl)
+lengths_differ [] (y ∷ ys) h = refl
+lengths_differ (x ∷ xs) [] h = refl
+lengths_differ (x ∷ xs) (y ∷ ys) h = go (eqb x y) (lengths_differ xs ys (λ e. h (ap suc e)))
+  where
+    go : (t : Bool) → same_bytes xs ys ≡ false → (t && same_bytes xs ys) ≡ false
+    go true e = e
+    go false e = refl
 
 same_append : (x y a b : List ℕ) → length x ≡ length y → same_bytes (x ++ a) (y ++ b) ≡ (same_bytes x y && same_bytes a b)
 unfolding same_bytes
@@ -68,46 +78,46 @@ same_tag t u ts us =
     rw (same_field t.key u.key (encode_field t.value) (encode_field u.value), same_last t.value u.value)
     (and_assoc (same_bytes t.key u.key) (same_bytes t.value u.value) (same_tags ts us))
 
--- two walks with the choice f, side by side: what is asked of the whole is asked of the tags left
-pub record SameLeft (f : List Tag → List Tag) (s t : List ℕ) (n p k q : ℕ) (want : Bool) : Type 0 where
-  pub asked : want ≡ same_tags (f (tags_up_to n (drop p s))) (f (tags_up_to k (drop q t)))
+-- two walks side by side, where the tags ts and us are left
 
-pub same_start : (f : List Tag → List Tag) (s t : List ℕ) (n p k q : ℕ) → tags_up_to n (drop p s) ≡ (labels_of s).tags
-    → tags_up_to k (drop q t) ≡ (labels_of t).tags → SameLeft f s t n p k q (same_tags (f (labels_of s).tags) (f (labels_of t).tags))
-same_start f s t n p k q hx hy = record { asked = rw (hx, hy) }
+pub same_start : (all all' ts us : List Tag) → ts ≡ all → us ≡ all' → same_tags all all' ≡ same_tags ts us
+same_start all all' ts us h k = rw (h, k)
 
-module _ (f : List Tag → List Tag) (s t : List ℕ) (n p k q : ℕ) (want : Bool) (inv : SameLeft f s t n p k q want) (x y : Next)
-    (hx : NextAt f s n p x) (hy : NextAt f t k q y) where
-  stepped : want ≡ same_tags (chosen_from f s x) (chosen_from f t y)
-  stepped = inv.asked ∙ rw (hx.tags, hy.tags)
-
-  pub both_end : x ≡ N.End → y ≡ N.End → true ≡ want
+module _ (want : Bool) (ts us : List Tag) (inv : want ≡ same_tags ts us) where
+  pub both_end : ts ≡ [] → us ≡ [] → true ≡ want
   unfolding same_tags
-  both_end ex ey = sym (rw (ex, ey) at stepped)
+  both_end h k = sym (inv ∙ rw (h, k))
 
-  pub first_ends : x ≡ N.End → (b a e z m : ℕ) → y ≡ N.Tag b a e z m → false ≡ want
+  pub first_ends : (u : Tag) (us' : List Tag) → ts ≡ [] → us ≡ u ∷ us' → false ≡ want
   unfolding same_tags
-  first_ends ex b a e z m ey = sym (rw (ex, ey) at stepped)
+  first_ends u us' h k = sym (inv ∙ rw (h, k))
 
-  module _ (b a e z m : ℕ) (ex : x ≡ N.Tag b a e z m) where
-    pub second_ends : y ≡ N.End → false ≡ want
+  module _ (t : Tag) (ts' : List Tag) (h : ts ≡ t ∷ ts') where
+    pub second_ends : us ≡ [] → false ≡ want
     unfolding same_tags
-    second_ends ey = sym (rw (ex, ey) at stepped)
+    second_ends k = sym (inv ∙ rw (h, k))
 
-    module _ (b' a' e' z' m' : ℕ) (ey : y ≡ N.Tag b' a' e' z' m') (r : Bool) (hr : r ≡ same_bytes (take (z - b) (drop b s)) (take (z' - b') (drop b' t))) where
-      compared : want ≡ (r && same_tags (f (tags_up_to m (drop z s))) (f (tags_up_to m' (drop z' t))))
-      compared =
-          rw (ex, ey) at stepped
-          ∙ same_tag (tag_at s a e z) (tag_at t a' e' z') (f (tags_up_to m (drop z s))) (f (tags_up_to m' (drop z' t)))
-          ∙ rw (hr, (next_stands f s n p x hx b a e z m ex).bytes, (next_stands f t k q y hy b' a' e' z' m' ey).bytes)
+    module _ (u : Tag) (us' : List Tag) (k : us ≡ u ∷ us') (x y : List ℕ) (hx : x ≡ encode_tag t) (hy : y ≡ encode_tag u)
+        (r : Bool) (hr : r ≡ same_bytes x y) where
+      compared : want ≡ (r && same_tags ts' us')
+      compared = inv ∙ rw (h, k, hr, hx, hy) (same_tag t u ts' us')
 
       pub tags_differ : r ≡ false → false ≡ want
       tags_differ e = sym (compared ∙ rw e)
 
-      pub same_turn : r ≡ true → SameLeft f s t m z m' z' want
-      same_turn e = record { asked = compared ∙ rw e }
+      pub same_turn : r ≡ true → want ≡ same_tags ts' us'
+      same_turn e = compared ∙ rw e
 
--- `hash_bytes`
+-- the first walk ended: the second one has to end too
+pub last_end : {I : Type 0} (left : I → List Tag) (want : Bool) (ts : List Tag) (i j : I) (r : Option T.Tag)
+    → want ≡ same_tags ts (left i) → ts ≡ [] → YieldsFirstBy tag_of left i r j → (b : Bool) → is_some r ≡ not b → b ≡ want
+last_end left want ts i j None inv h k true hb = both_end want ts (left i) inv h k.0
+last_end left want ts i j None inv h k false hb = grind arith
+last_end left want ts i j (Some u) inv h k true hb = grind arith
+last_end left want ts i j (Some u) inv h k false hb = first_ends want ts (left i) inv (tag_of u) (left j) h k
+
+-- a hash carried over bytes
+
 module _ (want x : ℕ) (s : List ℕ) (i : ℕ) (inv : want ≡ hash_bytes x (drop i s)) where
   pub hash_turn : i < length s → (y : ℕ) → y ≡ hash_byte x (get_or s i 0) → want ≡ hash_bytes y (drop (i + 1) s)
   unfolding hash_bytes
@@ -117,24 +127,18 @@ module _ (want x : ℕ) (s : List ℕ) (i : ℕ) (inv : want ≡ hash_bytes x (d
   unfolding hash_bytes
   hash_end h = sym (inv ∙ rw (drop_of_length-le s h))
 
--- a hash h carried over the tags passed by a walk with the choice f
-pub record HashLeft (f : List Tag → List Tag) (s : List ℕ) (n p h want : ℕ) : Type 0 where
-  pub asked : want ≡ hash_bytes h (encode_tags (f (tags_up_to n (drop p s))))
+-- and over the bytes of the tags left
 
-pub hash_start : (f : List Tag → List Tag) (s : List ℕ) (n p : ℕ) → tags_up_to n (drop p s) ≡ (labels_of s).tags
-    → HashLeft f s n p 0 (hash_of (f (labels_of s).tags))
+pub hash_start : (all ts : List Tag) → ts ≡ all → hash_of all ≡ hash_bytes 0 (encode_tags ts)
 unfolding hash_of
-hash_start f s n p h = record { asked = rw h }
+hash_start all ts h = rw h
 
-module _ (f : List Tag → List Tag) (s : List ℕ) (n p h want : ℕ) (inv : HashLeft f s n p h want) (x : Next) (hx : NextAt f s n p x) where
-  pub hash_done : x ≡ N.End → h ≡ want
+module _ (want h : ℕ) (ts : List Tag) (inv : want ≡ hash_bytes h (encode_tags ts)) where
+  pub hash_done : ts ≡ [] → h ≡ want
   unfolding encode_tags hash_bytes
-  hash_done ex = sym (inv.asked ∙ rw (next_ended f s n p x hx ex))
+  hash_done e = sym (inv ∙ rw e)
 
-  pub hash_one : (b a e z m : ℕ) → x ≡ N.Tag b a e z m → (r : ℕ) → r ≡ hash_bytes h (take (z - b) (drop b s)) → HashLeft f s m z r want
-  hash_one b a e z m ex r hr =
-      record {
-        asked =
-            inv.asked ∙ rw (next_tags f s n p x hx b a e z m ex, encode_tag_lem, hr, (next_stands f s n p x hx b a e z m ex).bytes)
-            (hash_append h (encode_tag (tag_at s a e z)) (encode_tags (f (tags_up_to m (drop z s)))));
-      }
+  pub hash_one : (t : Tag) (rest : List Tag) → ts ≡ t ∷ rest → (x : List ℕ) → x ≡ encode_tag t → (r : ℕ) → r ≡ hash_bytes h x
+      → want ≡ hash_bytes r (encode_tags rest)
+  hash_one t rest e x hx r hr =
+      inv ∙ rw (e, encode_tag_lem, hr, hx) (hash_append h (encode_tag t) (encode_tags rest))

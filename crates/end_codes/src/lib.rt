@@ -1,4 +1,5 @@
-// The first and the last places of a key, on one side or on two, packed in one number and read off it.
+// The first and the last places of a key, on one side or on two, packed in one number and read off it. Numbers, since
+// plans list the codes of rows in lent arrays of numbers.
 #![tactic(auto)]
 
 ghost use Rattle.std.specs.Prelude.{◌≡◌, ◌≤◌, ◌<◌};

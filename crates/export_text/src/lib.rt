@@ -4,65 +4,48 @@
 mod series_lines; // the lines of a series
 mod vector_lines; // the series of a vector: the first at fault, and their lines
 
-ghost use Rattle.std.specs.Prelude.{◌≡◌, length};
+ghost use Rattle.std.specs.Prelude.{◌≡◌, Err, length};
 ghost use Rattle.model.specs.Vector.{GoodGrid};
 ghost use Rattle.exposition.specs.Text.{series_text};
 ghost use Rattle.semantics.specs.Exposition.{fitted, export_vector, export};
 ghost use Rattle.side_parts.specs.Sides.{lent_series};
 ghost use Rattle.side_parts.specs.Lent.{shape_of};
-ghost use Rattle.answers.specs.Outcomes.{told};
+ghost use Rattle.answers.specs.Outcomes.{numbers};
 ghost use Rattle.keyed_sides.specs.TakenSides.{TakenSide, lent_vector};
-ghost use Rattle.export_text.specs.Exports.{refused_as, refused_so, Exports};
+ghost use Rattle.export_text.specs.Exports.{Exports};
+ghost use Rattle.exposed_faults.specs.Fits.{fit_number};
 
-use crate::vector_lines::Found;
-use answers::{Outcome, Told};
+use crate::vector_lines::Fault;
+use answers::{Numbers, Refusal};
+use exposed_faults::Unfit;
 use operator::Operator;
 use side_parts::Shape;
-use timeseries::Taken;
+use vector_faults::fault_of;
 
-// What an export comes to: the text's length, or a refusal's number and fields.
-#[derive(Clone, Copy)]
-pub enum Exported {
-    Text {
-        bytes: usize,
-    },
-    Refused {
-        number: usize,
-        first: usize,
-        second: usize,
-    },
-}
+impl From<Fault> for Numbers {
+    ghost from_gives = { λ fault refused. refused ≡ numbers (fit_number (Err fault.unfit)) 0 fault.place };
 
-fn refused(number: usize, first: usize, second: usize) -> Exported
-    ensures { result ≡ refused_as number first second }
-{
-    Exported::Refused {
-        number,
-        first,
-        second,
-    }
-}
-
-// A refusal that a vector's taking came to.
-fn refused_so(x: Outcome) -> Exported
-    ensures { result ≡ refused_so (told x) }
-{
-    match answers::told_as(x) {
-        Told::Refusal {
+    fn from(fault: Fault) -> Numbers {
+        let number = match fault.unfit {
+            Unfit::BadLabels => 15,
+            Unfit::TooLarge => 16,
+        };
+        Numbers {
             number,
-            first,
-            second,
-        } => refused(number, first, second),
-        Told::Answer {
-            series: _,
-            shape: _,
-            bytes: _,
-        } => refused(0, 0, 0),
+            first: 0,
+            second: fault.place,
+        }
     }
 }
 
-// A vector without faults: its text, where that fits.
-fn export_sound(array: &[u8], at: &[usize], shape: Shape, rows: &[u64], out: &mut [u8]) -> Exported
+// A vector without faults: the length of its text, where that fits.
+fn export_sound(
+    array: &[u8],
+    at: &[usize],
+    shape: Shape,
+    rows: &[u64],
+    out: &mut [u8],
+) -> Result<usize, Numbers>
     requires taken_side { TakenSide shape.points array.now at.now rows.now }
     requires good_grid { GoodGrid (shape_of shape) }
     ensures { Exports
@@ -72,14 +55,19 @@ fn export_sound(array: &[u8], at: &[usize], shape: Shape, rows: &[u64], out: &mu
 {
     let size = vector_lines::text_size(array, at, shape, rows);
     if out.len() < size {
-        return refused(10, 0, 0);
+        return Err(answers::numbers_of(Refusal::TooLong));
     }
-    let bytes = vector_lines::put_text(out, array, at, shape, rows);
-    Exported::Text { bytes }
+    Ok(vector_lines::put_text(out, array, at, shape, rows))
 }
 
 // A vector that is taken.
-fn export_taken(array: &[u8], at: &[usize], shape: Shape, rows: &[u64], out: &mut [u8]) -> Exported
+fn export_taken(
+    array: &[u8],
+    at: &[usize],
+    shape: Shape,
+    rows: &[u64],
+    out: &mut [u8],
+) -> Result<usize, Numbers>
     requires taken_side { TakenSide shape.points array.now at.now rows.now }
     requires good_grid { GoodGrid (shape_of shape) }
     ensures { Exports
@@ -87,28 +75,25 @@ fn export_taken(array: &[u8], at: &[usize], shape: Shape, rows: &[u64], out: &mu
         (lent_vector (shape_of shape) array.now at.now rows.now))
         out.old out.new result }
 {
-    match vector_lines::first_fault(array, at, shape.points, rows) {
-        Found::Sound => export_sound(array, at, shape, rows, out),
-        Found::BadLabels(place) => refused(15, 0, place),
-        Found::TooLarge(place) => refused(16, 0, place),
-    }
+    vector_lines::first_fault(array, at, shape.points, rows)?;
+    export_sound(array, at, shape, rows, out)
 }
 
-// Exports a vector, a label part and its readings: writes the text at the start of the output part.
-pub fn export_text(labels: &[u8], readings: &[u64], out: &mut [u8]) -> Exported
+// Exports a vector, a label part and its readings: writes the text at the start of the output part, and gives its length;
+// or a refusal's number and fields.
+pub fn export_text(labels: &[u8], readings: &[u64], out: &mut [u8]) -> Result<usize, Numbers>
     ensures { Exports (export labels.now readings.now (length out.old))
         out.old out.new result }
 {
     let mut at = [0usize; 513];
-    let taken = timeseries::take_vector(labels, readings, &mut at);
-    let Taken::Vector { series: n, shape } = taken else {
-        return refused_so(vector_faults::fault_of(0, taken));
+    let vector = match timeseries::take_vector(labels, readings, &mut at) {
+        Ok(vector) => vector,
+        Err(fault) => return Err(answers::numbers_of(fault_of(0, fault))),
     };
-    let e = n + 1;
     export_taken(
         &labels[Operator::SIZES_LENGTH..],
-        &at[..e],
-        shape,
+        &at[..vector.series + 1],
+        vector.shape,
         readings,
         out,
     )

@@ -42,27 +42,17 @@ pub(crate) fn lines_size(rec: &[u8], shape: Shape, row: &[u64]) -> usize
 {
     let head = labels_size(rec);
     let mut n: usize = 0;
-    let mut i: usize = 0;
-    while i < row.len() {
-        n += line_size(head, time_of(shape, i), row[i]);
-        i += 1;
+    for (i, x) in row.iter().enumerate() {
+        n += line_size(head, time_of(shape, i), *x);
     }
     n
 }
 
-// The place of the first present reading; the row's length where there is none.
-fn first_present(row: &[u64]) -> usize
+// The place of the first present reading.
+fn first_present(row: &[u64]) -> Option<usize>
     ensures { FirstPresent row.now result }
 {
-    let mut i: usize = 0;
-    while i < row.len() {
-        if is_missing(row[i]) {
-            i += 1;
-        } else {
-            return i;
-        }
-    }
-    i
+    row.iter().position(|x| !is_missing(*x))
 }
 
 // A line behind one of the same series, whose labels stand at a place and take n bytes.
@@ -98,10 +88,8 @@ fn put_more_lines(
         out.new result }
 {
     let mut o = at;
-    let mut i = k;
-    while i < row.len() {
+    for i in k..row.len() {
         o = put_line(out, o, from, n, time_of(shape, i), row[i]);
-        i += 1;
     }
     o
 }
@@ -114,10 +102,9 @@ pub(crate) fn put_lines(out: &mut [u8], at: usize, rec: &[u8], shape: Shape, row
         (lines_text (labels_text (labels_of rec.now)) (shape_of shape) 0 row.now)
         out.new result }
 {
-    let k = first_present(row);
-    if row.len() <= k {
+    let Some(k) = first_present(row) else {
         return at;
-    }
+    };
     let o = put_labels(out, at, rec);
     let p = put_sample(out, o, time_of(shape, k) as u64, row[k]);
     put_more_lines(out, p, at, o - at, shape, k + 1, row)

@@ -12,31 +12,27 @@ ghost use Rattle.keyed_sides.specs.TakenSides.{TakenSide};
 ghost use Rattle.export_text.specs.Found.{fault_found};
 
 use crate::series_lines::{lines_size, put_lines};
-use exposed_faults::Fit;
+use exposed_faults::{Unfit, fit_of};
 use side_parts::{Shape, record, row};
 
-// The first series at fault, by its place.
-#[derive(Clone, Copy)]
-pub(crate) enum Found {
-    Sound,
-    BadLabels(usize),
-    TooLarge(usize),
+// A series at fault, by its place.
+#[derive(Clone, Copy, Debug, PartialEq, Eq)]
+pub(crate) struct Fault {
+    pub(crate) unfit: Unfit,
+    pub(crate) place: usize,
 }
 
-pub(crate) fn first_fault(array: &[u8], at: &[usize], p: usize, rows: &[u64]) -> Found
+// The first series at fault.
+pub(crate) fn first_fault(array: &[u8], at: &[usize], p: usize, rows: &[u64]) -> Result<(), Fault>
     requires { TakenSide p array.now at.now rows.now }
     ensures { fault_found result ≡ first_fault 0 (lent_series array.now at.now p rows.now) }
 {
-    let n = at.len() - 1;
-    let mut i: usize = 0;
-    while i < n {
-        match exposed_faults::fit_of(record(array, at, i), row(rows, p, i)) {
-            Fit::Fits => i += 1,
-            Fit::BadLabels => return Found::BadLabels(i),
-            Fit::TooLarge => return Found::TooLarge(i),
+    for place in 0..at.len() - 1 {
+        if let Err(unfit) = fit_of(record(array, at, place), row(rows, p, place)) {
+            return Err(Fault { unfit, place });
         }
     }
-    Found::Sound
+    Ok(())
 }
 
 pub(crate) fn text_size(array: &[u8], at: &[usize], shape: Shape, rows: &[u64]) -> usize
@@ -46,13 +42,9 @@ pub(crate) fn text_size(array: &[u8], at: &[usize], shape: Shape, rows: &[u64]) 
         (series_text (shape_of shape) (lent_series array.now at.now shape.points rows.now))
         26422798188544 result }
 {
-    let n = at.len() - 1;
-    let p = shape.points;
     let mut size: usize = 0;
-    let mut i: usize = 0;
-    while i < n {
-        size += lines_size(record(array, at, i), shape, row(rows, p, i));
-        i += 1;
+    for i in 0..at.len() - 1 {
+        size += lines_size(record(array, at, i), shape, row(rows, shape.points, i));
     }
     size
 }
@@ -101,12 +93,9 @@ pub(crate) fn put_text(
         (series_text (shape_of shape) (lent_series array.now at.now shape.points rows.now))
         out.new result }
 {
-    let n = at.len() - 1;
     let mut o: usize = 0;
-    let mut i: usize = 0;
-    while i < n {
+    for i in 0..at.len() - 1 {
         o = put_series(out, o, array, at, shape, rows, i);
-        i += 1;
     }
     o
 }

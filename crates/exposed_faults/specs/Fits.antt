@@ -1,10 +1,10 @@
 -- The code's answer in the numbers of 02. Assumes nothing.
-use Rattle.std.specs.Prelude.{ℕ}
-use Rattle.exposed_faults.specs.declared.Fit.{Fit}
-use Rattle.exposed_faults.specs.declared.Fit.TheVariants.{Fits, BadLabels, TooLarge}
+use Rattle.std.specs.Prelude.{ℕ, Result, Ok, Err}
+use Rattle.exposed_faults.specs.declared.Unfit.{Unfit}
+use Rattle.exposed_faults.specs.declared.Unfit.TheVariants.{BadLabels, TooLarge}
 
 -- 0 where the format can carry a series
-abbrev pub fit_number : Fit → ℕ
-fit_number Fits = 0
-fit_number BadLabels = 15
-fit_number TooLarge = 16
+abbrev pub fit_number : Result (Unit {0}) Unfit → ℕ
+fit_number (Ok _) = 0
+fit_number (Err BadLabels) = 15
+fit_number (Err TooLarge) = 16

@@ -2,24 +2,26 @@
 ghost use Rattle.std.specs.Prelude.{◌≡◌};
 ghost use Rattle.exposition.specs.Faults.{leads, more_bytes, lowest, highest, is_utf8};
 
+#[tactic(auto, unfolding(exposition::specs::Faults::leads))]
 fn can_lead(b: u8) -> bool
     ensures { result ≡ leads b }
 {
-    (b <= 0x7f) | ((0xc2 <= b) & (b <= 0xf4))
+    matches!(b, 0..=0x7f | 0xc2..=0xf4)
 }
 
+#[tactic(auto, unfolding(exposition::specs::Faults::more_bytes))]
 fn more_bytes(b: u8) -> usize
     ensures { result ≡ more_bytes b }
 {
-    if b <= 0x7f {
-        return 0;
+    match b {
+        0..=0x7f => 0,
+        0x80..=0xdf => 1,
+        0xe0..=0xef => 2,
+        _ => 3,
     }
-    if b <= 0xdf {
-        return 1;
-    }
-    if b <= 0xef { 2 } else { 3 }
 }
 
+#[tactic(auto, unfolding(exposition::specs::Faults::lowest))]
 fn lowest_of(b: u8) -> u8
     ensures { result ≡ lowest b }
 {
@@ -30,6 +32,7 @@ fn lowest_of(b: u8) -> u8
     }
 }
 
+#[tactic(auto, unfolding(exposition::specs::Faults::highest))]
 fn highest_of(b: u8) -> u8
     ensures { result ≡ highest b }
 {
@@ -41,32 +44,28 @@ fn highest_of(b: u8) -> u8
 }
 
 // Byte by byte: how many bytes of a sequence are due, and from where to where the next of them may lie.
+#[tactic(auto, using(crate::proofs::utf8::Laws::next_byte, crate::proofs::utf8::Laws::no_byte))]
 pub(crate) fn is_utf8(s: &[u8]) -> bool
     ensures { result ≡ is_utf8 s.now }
 {
     let mut due: usize = 0;
     let mut low: u8 = 0x80;
     let mut high: u8 = 0xbf;
-    let mut i: usize = 0;
-    while i < s.len() {
-        let b = s[i];
-        i += 1;
+    for b in s {
         if due == 0 {
-            if can_lead(b) {
-                due = more_bytes(b);
-                low = lowest_of(b);
-                high = highest_of(b);
-            } else {
+            if !can_lead(*b) {
                 return false;
             }
+            due = more_bytes(*b);
+            low = lowest_of(*b);
+            high = highest_of(*b);
         } else {
-            if (low <= b) & (b <= high) {
-                due -= 1;
-                low = 0x80;
-                high = 0xbf;
-            } else {
+            if *b < low || high < *b {
                 return false;
             }
+            due -= 1;
+            low = 0x80;
+            high = 0xbf;
         }
     }
     due == 0

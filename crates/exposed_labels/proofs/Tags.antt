@@ -1,5 +1,5 @@
 -- A record's tags: measured, and written. Assumes nothing.
-use Prim.Native.Nat.{ℕ, ◌≤◌, ◌<◌, ◌+◌, ◌-◌, ◌*◌, ◌^◌}
+use Prim.Native.Nat.{ℕ, ◌≤◌, ◌<◌, ◌+◌, ◌*◌, ◌^◌}
 use mathlib.Core.Path.{◌≡◌, refl, ap, ◌∙◌}
 use mathlib.Core.Bool.{cond}
 use mathlib.Core.List.{List, [], ◌∷◌, ◌++◌, append_assoc}
@@ -7,23 +7,23 @@ use native.Mathlib.Omega.{arith}
 use mir.Syntax.{w64}
 use mir.Val.{Fits}
 use lib.Dec.{eqb}
-use lib.ListN.{length, take, drop, set, length-set, length-append, length-take, length-drop}
-use lib.Seq.{length-take-le}
+use lib.ListN.{length, set, length-set, length-append}
 use borrow.Author.Tests.{ne_eqb}
 use Rattle.model.specs.Labels.{Tag}
-use Rattle.record_tags.specs.Lenient.{tags_up_to, labels_of}
-use Rattle.record_tags.specs.Cursors.{TagsOf, NextAt, Standing, tag_at, every}
+use Rattle.model.specs.Record.{encode_field, encode_tags}
+use Rattle.record_tags.specs.Lenient.{labels_of}
+use Rattle.record_tags.specs.Cursors.{TagsOf, tags_left}
 use Rattle.record_tags.specs.declared.Tags.{Tags}
-use Rattle.record_tags.specs.declared.Next.{Next}
-use Rattle.record_tags.specs.declared.Next.TheVariants as N
-use Rattle.record_tags.proofs.Cursors.{next_stands, next_fewer, next_tags, next_ended}
+use Rattle.record_tags.proofs.Cursors.{tags_begun}
+use Rattle.record_tags.proofs.Sizes.{length-tags}
+use Rattle.kept_labels.proofs.Sizes.{length-labels, labels_short}
 use Rattle.writing.specs.Written.{Put}
 use Rattle.writing.specs.Measured.{Measured}
 use Rattle.writing.proofs.Written.{Rest, rest_start, rest_as, rest_done, put_byte_done}
 use Rattle.writing.proofs.Runs.{piece_room, piece_put, last_room, last_put}
 use Rattle.exposition.specs.Text.{escaped_all, tag_text, more_tags, braced_tags}
 use Rattle.exposed_labels.specs.Pieces.{led_tag}
-use Rattle.exposed_labels.proofs.Values.{put_two}
+use Rattle.exposed_labels.proofs.Values.{put_two, few}
 
 -- `put_tag`: a tag behind a byte, piece by piece
 
@@ -119,17 +119,12 @@ unfolding braced_tags tags_from
 braced_from [] = refl
 braced_from (t ∷ ts) = rw (more_from ts)
 
--- the tags of a record, and those left behind one
-
+-- the tags of a record
 abbrev tags_of : List ℕ → List ℕ
 tags_of s = braced_tags (labels_of s).tags
 
-abbrev behind : List ℕ → ℕ → ℕ → List ℕ
-behind s p m = tags_from 44 (tags_up_to m (drop p s))
-
-from_start : (s : List ℕ) (t : Tags) → TagsOf s t
-    → tags_of s ≡ tags_from 123 (tags_up_to t.count (drop t.at s))
-from_start s t ht = rw ht.tags (braced_from (labels_of s).tags)
+from_start : (s : List ℕ) (t u : Tags) → TagsOf s t → u ≡ t → tags_of s ≡ tags_from 123 (tags_left u)
+from_start s t u ht e = braced_from (labels_of s).tags ∙ ap (tags_from 123) (tags_begun s t u ht e)
 
 from_tag : (lead : ℕ) (t : Tag) (ts : List Tag) → tags_from lead (t ∷ ts) ≡ ((lead ∷ []) ++ tag_text t) ++ tags_from 44 ts
 unfolding tags_from
@@ -143,116 +138,88 @@ from_last : (lead : ℕ) → (lead ≡ 123 → ⊥) → tags_from lead [] ≡ 12
 unfolding tags_from
 from_last lead h = rw (ne_eqb lead 123 h)
 
--- the loop of `put_tags`
-pub record TagsLeft (s d₀ : List ℕ) (at : ℕ) (d : List ℕ) (p m lead o : ℕ) : Type 0 where
-  pub rest : Rest d₀ at (tags_of s) d o (tags_from lead (tags_up_to m (drop p s)))
+-- the loop of `put_tags`, where `ts` are left
+pub record TagsLeft (s d₀ : List ℕ) (at : ℕ) (d : List ℕ) (ts : List Tag) (lead o : ℕ) : Type 0 where
+  pub rest : Rest d₀ at (tags_of s) d o (tags_from lead ts)
 
-pub tags_start : (s : List ℕ) (t : Tags) → TagsOf s t → (d : List ℕ) (at : ℕ)
-    → at + length (tags_of s) ≤ length d → TagsLeft s d at d t.at t.count 123 at
-tags_start s t ht d at room =
-    record { rest = rest_as d at (tags_of s) d at (tags_of s) _ (rest_start d at (tags_of s) room) (from_start s t ht) }
+pub tags_start : (s : List ℕ) (t u : Tags) → TagsOf s t → u ≡ t → (d : List ℕ) (at : ℕ)
+    → at + length (tags_of s) ≤ length d → TagsLeft s d at d (tags_left u) 123 at
+tags_start s t u ht e d at room =
+    record { rest = rest_as d at (tags_of s) d at (tags_of s) _ (rest_start d at (tags_of s) room) (from_start s t u ht e) }
 
-module _ (s d₀ : List ℕ) (at : ℕ) (d : List ℕ) (p m lead o : ℕ) (inv : TagsLeft s d₀ at d p m lead o)
-    (x : Next) (hx : NextAt every s m p x) where
-  module _ (ex : x ≡ N.End) where
-    ended : Rest d₀ at (tags_of s) d o (tags_from lead [])
-    ended = rw (next_ended every s m p x hx ex) at inv.rest
-
+module _ (s d₀ : List ℕ) (at : ℕ) (d : List ℕ) (ts : List Tag) (lead o : ℕ) (inv : TagsLeft s d₀ at d ts lead o) where
+  module _ (none : ts ≡ []) where
     pub tags_none : lead ≡ 123 → Put d₀ at (tags_of s) d o
-    tags_none h = rest_done d₀ at (tags_of s) d o (rw (from_none lead h) at ended)
+    tags_none h = rest_done d₀ at (tags_of s) d o (rw (none, from_none lead h) at inv.rest)
 
     module _ (h : lead ≡ 123 → ⊥) where
       last : Rest d₀ at (tags_of s) d o (125 ∷ [])
-      last = rw (from_last lead h) at ended
+      last = rw (none, from_last lead h) at inv.rest
 
-      room : o + 1 ≤ length d
-      room = last_room d₀ at (tags_of s) d o (125 ∷ []) last
+      pub brace_room : o + 1 ≤ length d
+      brace_room = last_room d₀ at (tags_of s) d o (125 ∷ []) last
 
-      pub brace_in : o < length d
-      brace_in = omega (arith, room)
+      pub tags_last : (d' : List ℕ) (r : ℕ) → Put d o (125 ∷ []) d' r → Put d₀ at (tags_of s) d' r
+      tags_last = last_put d₀ at (tags_of s) d o (125 ∷ []) last
 
-      pub brace_fits : length d₀ < 2 ^ 64 → Fits w64 (o + 1)
-      brace_fits g = omega (arith, room, last.size)
-
-      pub tags_last : Put d₀ at (tags_of s) (set d o 125) (o + 1)
-      tags_last = last_put d₀ at (tags_of s) d o (125 ∷ []) last (set d o 125) (o + 1) (put_byte_done d o 125 room)
-
-  module _ (b a e z k : ℕ) (ex : x ≡ N.Tag b a e z k) where
+  module _ (t : Tag) (us : List Tag) (more : ts ≡ t ∷ us) where
     abbrev tag : List ℕ
-    tag = (lead ∷ []) ++ tag_text (tag_at s a e z)
+    tag = led_tag lead t.key t.value
 
-    more : Rest d₀ at (tags_of s) d o (tag ++ behind s z k)
-    more = rw (next_tags every s m p x hx b a e z k ex, from_tag) at inv.rest
+    more_left : Rest d₀ at (tags_of s) d o (tag ++ tags_from 44 us)
+    more_left = rw (more, from_tag) at inv.rest
 
-    pub tags_room : o + length tag ≤ length d
-    tags_room = piece_room d₀ at (tags_of s) d o tag (behind s z k) more
+    pub tags_room : o + length (led_tag lead t.key t.value) ≤ length d
+    tags_room = piece_room d₀ at (tags_of s) d o tag (tags_from 44 us) more_left
 
-    pub tags_turn : (d' : List ℕ) (r : ℕ) → Put d o tag d' r → TagsLeft s d₀ at d' z k 44 r
-    tags_turn d' r q = record { rest = piece_put d₀ at (tags_of s) d o tag (behind s z k) more d' r q }
+    pub tags_turn : (d' : List ℕ) (r : ℕ) → Put d o (led_tag lead t.key t.value) d' r → TagsLeft s d₀ at d' us 44 r
+    tags_turn d' r q = record { rest = piece_put d₀ at (tags_of s) d o tag (tags_from 44 us) more_left d' r q }
 
--- the loop of `tags_size`: the tags passed are measured, each at most 196609
-pub record TagsCount (s : List ℕ) (p m lead size : ℕ) : Type 0 where
-  pub total : size + length (tags_from lead (tags_up_to m (drop p s))) ≡ length (tags_of s)
-  pub small : size + 196609 * m ≤ 50135295
+-- the loop of `tags_size`: the tags passed are measured, each at most twice as long as in the record
+pub record TagsCount (s : List ℕ) (ts : List Tag) (lead size : ℕ) : Type 0 where
+  pub total : size + length (tags_from lead ts) ≡ length (tags_of s)
+  pub small : size + 2 * length (encode_tags ts) ≤ 131070
 
-pub count_start : (s : List ℕ) (t : Tags) → TagsOf s t → TagsCount s t.at t.count 123 0
-count_start s t ht = record { total = omega (arith, ap length (from_start s t ht)); small = omega (arith, ht.few) }
-
--- a value is a part of the record
-pub value_small : (s : List ℕ) (a e : ℕ) → length s ≤ 65535 → length (take (e - a) (drop a s)) ≤ 65535
-value_small s a e h = simp (length-take, length-drop) (omega arith)
+pub count_start : (s : List ℕ) (t u : Tags) → TagsOf s t → u ≡ t → length s ≤ 65535 → TagsCount s (tags_left u) 123 0
+count_start s t u ht e h =
+    record {
+      total = omega (arith, ap length (from_start s t u ht e));
+      small = rw (← tags_begun s t u ht e) (omega (arith, labels_short s, length-labels (labels_of s)));
+    }
 
 tag_length : (lead : ℕ) (t : Tag)
     → length ((lead ∷ []) ++ tag_text t) ≡ length t.key + length (escaped_all t.value) + 4
 unfolding tag_text
 tag_length lead t = simp length-append (omega arith)
 
-module _ (s : List ℕ) (p m lead size : ℕ) (inv : TagsCount s p m lead size) (x : Next) (hx : NextAt every s m p x) where
-  module _ (ex : x ≡ N.End) where
+module _ (s : List ℕ) (ts : List Tag) (lead size : ℕ) (inv : TagsCount s ts lead size) where
+  module _ (none : ts ≡ []) where
     sum : size + length (tags_from lead []) ≡ length (tags_of s)
-    sum = rw (next_ended every s m p x hx ex) at inv.total
+    sum = rw none at inv.total
 
     pub count_none : lead ≡ 123 → Measured (tags_of s) 50331905 size
     count_none h = record { size = omega (arith, sum, ap length (from_none lead h)); small = omega (arith, inv.small) }
 
-    pub count_fits : Fits w64 (size + 1)
-    count_fits = omega (arith, inv.small)
-
     pub count_last : (lead ≡ 123 → ⊥) → Measured (tags_of s) 50331905 (size + 1)
     count_last h = record { size = omega (arith, sum, ap length (from_last lead h)); small = omega (arith, inv.small) }
 
-  module _ (b a e z k : ℕ) (ex : x ≡ N.Tag b a e z k) (short : length s ≤ 65535)
-      (w : ℕ) (hw : Measured (escaped_all (tag_at s a e z).value) 131070 w) where
-    abbrev t : Tag
-    t = tag_at s a e z
+  module _ (t : Tag) (us : List Tag) (more : ts ≡ t ∷ us) where
+    small : size + 2 * (2 + length t.key + length t.value + length (encode_tags us)) ≤ 131070
+    small =
+        let tag = length-append (encode_field t.key) (encode_field t.value) in
+        omega (arith, rw more at inv.small, length-tags t us, tag)
 
-    stands : Standing s b a e z
-    stands = next_stands every s m p x hx b a e z k ex
+    pub value_small : length t.value ≤ 65535
+    value_small = omega (arith, small)
 
-    key_length : length t.key ≡ e - a
-    key_length =
-        let within : e ≤ length s = omega (arith, stands.value_order, stands.within) in
-        length-take-le (e - a) (drop a s) (omega (arith, length-drop a s))
+    module _ (w : ℕ) (hw : Measured (escaped_all t.value) 131070 w) where
+      here : size + length (((lead ∷ []) ++ tag_text t) ++ tags_from 44 us) ≡ length (tags_of s)
+      here = rw (more, from_tag) at inv.total
 
-    few_bytes_lem : e - a + w + 4 ≤ 196609
-    few_bytes_lem = omega (arith, hw.small, stands.value_order, stands.within)
-
-    pub count_sum : Fits w64 (e - a + w)
-    count_sum = omega (arith, few_bytes_lem)
-
-    pub count_sum_2 : Fits w64 (e - a + w + 4)
-    count_sum_2 = omega (arith, few_bytes_lem)
-
-    pub count_sum_3 : Fits w64 (size + (e - a + w + 4))
-    count_sum_3 = omega (arith, inv.small, few_bytes_lem)
-
-    here : size + length (((lead ∷ []) ++ tag_text t) ++ behind s z k) ≡ length (tags_of s)
-    here = rw (next_tags every s m p x hx b a e z k ex, from_tag) at inv.total
-
-    pub count_turn : TagsCount s z k 44 (size + (e - a + w + 4))
-    count_turn =
-        let both = length-append ((lead ∷ []) ++ tag_text t) (behind s z k) in
-        record {
-          total = omega (arith, here, both, tag_length lead t, key_length, hw.size);
-          small = omega (arith, inv.small, few_bytes_lem, next_fewer every s m p x hx b a e z k ex);
-        }
+      pub count_turn : TagsCount s us 44 (size + (length t.key + w + 4))
+      count_turn =
+          let both = length-append ((lead ∷ []) ++ tag_text t) (tags_from 44 us) in
+          record {
+            total = omega (arith, here, both, tag_length lead t, hw.size);
+            small = omega (arith, small, hw.size, few t.value);
+          }

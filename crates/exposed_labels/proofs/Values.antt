@@ -1,16 +1,17 @@
 -- The bytes of a tag value, escaped: measured, and written. Assumes nothing.
 use Prim.Native.Nat.{ℕ, ◌≤◌, ◌<◌, ◌+◌, ◌*◌, ◌^◌}
-use mathlib.Core.Path.{◌≡◌, refl, sym, ap, ◌∙◌}
+use mathlib.Core.Path.{◌≡◌, refl, ap, ◌∙◌}
 use mathlib.Core.Bool.{Bool, true, false, ◌||◌, cond}
-use mathlib.Core.List.{List, [], ◌∷◌, ◌++◌}
+use mathlib.Core.List.{List, [], ◌∷◌}
 use native.Mathlib.Omega.{arith}
-use native.Mathlib.Numerals.{add-one}
 use mir.Syntax.{w64}
 use mir.Val.{Fits}
 use lib.Dec.{eqb}
-use lib.ListN.{length, get_or, drop, set, length-append, length-set, drop_of_length-le}
-use lib.Seq.{drop-cons, set-set}
-use borrow.Author.Tests.{eqb-true, ne_eqb}
+use lib.ListN.{length, get_or, set, length-append, length-set}
+use lib.Seq.{set-set}
+use borrow.Author.Tests.{eqb-true}
+use Rattle.std.specs.List.{sum_by}
+use Rattle.std.proofs.lemmas.List.Recursion.{is_sum_by}
 use Rattle.model.specs.Lists.{cases}
 use Rattle.writing.specs.Written.{written, Put}
 use Rattle.writing.specs.Measured.{Measured}
@@ -37,51 +38,28 @@ module _ (b : ℕ) where
   one_byte : special ≡ false → escaped b ≡ letter b ∷ []
   one_byte e = alike ∙ rw e
 
-  pub one_escape : special ≡ true → Measured (escaped b) 2 2
-  one_escape e = record { size = sym (ap length (two_bytes_lem e)); small = omega arith }
-
-  pub no_escape : special ≡ false → Measured (escaped b) 2 1
-  no_escape e = record { size = sym (ap length (one_byte e)); small = omega arith }
-
   some_bytes : 1 ≤ length (escaped b)
   some_bytes =
       cases special (λ e. omega (arith, ap length (two_bytes_lem e))) (λ e. omega (arith, ap length (one_byte e)))
 
-  pub is_feed : b ≡ 10 → 110 ≡ letter b
-  is_feed e = rw e
+  few_bytes_lem : length (escaped b) ≤ 2
+  few_bytes_lem =
+      cases special (λ e. omega (arith, ap length (two_bytes_lem e))) (λ e. omega (arith, ap length (one_byte e)))
 
-  pub no_feed : (b ≡ 10 → ⊥) → b ≡ letter b
-  no_feed e = rw (ne_eqb b 10 e)
+-- `value_size`
+abbrev pub escaped_size : ℕ → ℕ
+escaped_size b = length (escaped b)
 
--- the loop of `value_size`: the bytes passed are measured
-pub record ValueCount (s : List ℕ) (n i : ℕ) : Type 0 where
-  pub some : i ≤ length s
-  pub total : n + length (escaped_all (drop i s)) ≡ length (escaped_all s)
-  pub small : n ≤ 2 * i
+sizes : (s : List ℕ) → length (escaped_all s) ≡ sum_by escaped_size s
+sizes s = is_sum_by (λ t. length (escaped_all t)) escaped_size refl (λ b t. length-append (escaped b) (escaped_all t)) s
 
-pub value_start : (s : List ℕ) → ValueCount s 0 0
-value_start s = record { some = omega arith; total = omega arith; small = omega arith }
+pub few : (s : List ℕ) → length (escaped_all s) ≤ 2 * length s
+few [] = omega arith
+few (b ∷ s) = omega (arith, length-append (escaped b) (escaped_all s), few_bytes_lem b, few s)
 
-module _ (s : List ℕ) (n i : ℕ) (inv : ValueCount s n i) where
-  module _ (h : i < length s) (k : ℕ) (hk : Measured (escaped (get_or s i 0)) 2 (k + 1)) where
-    pub value_turn : ValueCount s (n + (k + 1)) (i + 1)
-    value_turn =
-        let left : List ℕ = escaped_all (drop (i + 1) s) in
-        let here : escaped_all (drop i s) ≡ escaped (get_or s i 0) ++ left = rw (add-one, drop-cons s i 0 h) in
-        let sum = ap length here ∙ length-append (escaped (get_or s i 0)) left in
-        record {
-          some = omega arith;
-          total = omega (arith, inv.total, sum, hk.size);
-          small = omega (arith, inv.small, hk.small);
-        }
-
-    pub value_sum : length s ≤ 65535 → Fits w64 (n + (k + 1))
-    value_sum g = omega (arith, inv.small, hk.small)
-
-  pub value_done : length s ≤ i → length s ≤ 65535 → Measured (escaped_all s) 131070 n
-  value_done h g =
-      let none : escaped_all (drop i s) ≡ [] = rw (drop_of_length-le s h) in
-      record { size = omega (arith, inv.total, ap length none); small = omega (arith, inv.small, inv.some) }
+pub value_measured : (s : List ℕ) (n : ℕ) → n ≡ sum_by escaped_size s → length s ≤ 65535
+    → Measured (escaped_all s) 131070 n
+value_measured s n e h = record { size = omega (arith, e, sizes s); small = omega (arith, e, sizes s, few s) }
 
 -- two bytes that are stored
 pub put_two : (d : List ℕ) (o a b : ℕ) → o + 2 ≤ length d → Put d o (a ∷ b ∷ []) (set (set d o a) (o + 1) b) (o + 2)

@@ -1,12 +1,10 @@
 -- A value's sign and digits: written, and measured. Assumes nothing.
-use Prim.Native.Nat.{ℕ, ◌+◌, ◌/◌, ◌≤◌, ◌<◌}
+use Prim.Native.Nat.{ℕ, ◌+◌, ◌/◌, ◌≤◌}
 use mathlib.Core.Path.{◌≡◌}
 use mathlib.Core.Bool.{Bool, true, false}
 use mathlib.Core.List.{List, [], ◌∷◌, ◌++◌}
 use native.Mathlib.Omega.{arith}
-use lib.Dec.{ltb}
 use lib.ListN.{length, length-append}
-use borrow.Author.Tests.{le-leb, lt-leb}
 use Rattle.model.specs.Numerals.{digit_count}
 use Rattle.writing.specs.Written.{Put}
 use Rattle.writing.specs.Measured.{Measured}
@@ -19,13 +17,6 @@ use Rattle.exposition.specs.Text.{time_text, sample_text}
 
 pub counted : (n k : ℕ) → k ≡ digit_count 20 n → k ≤ 20
 counted n k h = omega (arith, h, count_most 20 n)
-
-module _ (x t : ℕ) where
-  pub unsigned : x < 0x8000_0000_0000_0000 → false ≡ is_signed x t
-  unsigned h = rw (lt-leb 0x8000_0000_0000_0000 x h)
-
-  pub signed_if : 0x8000_0000_0000_0000 ≤ x → ltb 0 t ≡ is_signed x t
-  signed_if h = rw (le-leb 0x8000_0000_0000_0000 x h)
 
 module _ (b : Bool) (d : List ℕ) (at : ℕ) (room : at + length (sign_text b) ≤ length d) where
   pub sign_room : b ≡ true → at + 1 ≤ length d

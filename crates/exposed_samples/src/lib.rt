@@ -17,16 +17,13 @@ use writing::put_byte;
 fn is_signed(x: u64, t: u64) -> bool
     ensures { result ≡ is_signed x t }
 {
-    if x < 0x8000_0000_0000_0000 {
-        return false;
-    }
-    0 < t
+    0x8000_0000_0000_0000 <= x && 0 < t
 }
 
 fn sign_size(signed: bool) -> usize
     ensures { Measured (sign_text signed) 1 result }
 {
-    if signed { 1 } else { 0 }
+    usize::from(signed)
 }
 
 fn put_sign(out: &mut [u8], at: usize, signed: bool) -> usize

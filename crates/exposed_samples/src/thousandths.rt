@@ -10,6 +10,7 @@ fn exponent_of(x: u64) -> u64
 }
 
 // The mantissa takes 53 bits.
+#[tactic(auto, unfolding(exposition::specs::Values::mantissa))]
 fn mantissa_of(x: u64) -> u64
     ensures { Mantissa x result }
 {
@@ -21,17 +22,20 @@ fn mantissa_of(x: u64) -> u64
     }
 }
 
+#[tactic(auto, unfolding(exposition::specs::Values::scale))]
 fn scale_of(x: u64) -> u64
     ensures { result ≡ scale x }
 {
     let e = exponent_of(x);
     if e == 0 {
-        return 1074;
+        1074
+    } else {
+        1075u64.saturating_sub(e)
     }
-    if e < 1075 { 1075 - e } else { 0 }
 }
 
 // Whether an exact half is rounded up, where the whole number below it is q.
+#[tactic(auto, unfolding(exposition::specs::Values::half_up))]
 fn half_up(q: u64) -> bool
     ensures { result ≡ half_up q }
 {
@@ -44,10 +48,7 @@ fn rounds_up(q: u64, r: u64, d: u64) -> bool
     ensures { result ≡ rounds_up q r d }
 {
     let twice = 2 * r;
-    if d < twice {
-        return true;
-    }
-    if d == twice { half_up(q) } else { false }
+    d < twice || (d == twice && half_up(q))
 }
 
 // n / 2 ^ s, rounded to nearest, by shifts: a division by a variable is slow.

@@ -1,6 +1,6 @@
 -- A field that the code finds at a place is the field that the definition reads there. Assumes nothing.
 use Prim.Native.Nat.{ℕ, suc, ◌≤◌, ◌<◌, ◌+◌, ◌-◌}
-use mathlib.Core.Path.{◌≡◌, refl, sym, ◌∙◌}
+use mathlib.Core.Path.{◌≡◌, refl, sym, ap, ◌∙◌}
 use mathlib.Core.List.{List}
 use mathlib.Core.Bool.{Bool, true, false, cond}
 use native.Mathlib.Omega.{arith}
@@ -11,10 +11,11 @@ use lib.ListN.{length, get_or, take, drop, length-drop, drop_of_length-le}
 use lib.Seq.{drop-cons, drop-drop}
 use lib.Dec.{leb, ltb}
 use borrow.Author.Tests.{ltb-true, ltb-false, leb-true, leb-false, le-leb, lt-leb}
+use Rattle.std.specs.Prelude.{Some, None}
+use Rattle.std.specs.declared.option.Option.{Option}
 use Rattle.model.specs.Record.{short, field, read_field}
-use Rattle.fields.specs.Fields.{field_at}
-use Rattle.fields.specs.declared.Place.{Place}
-use Rattle.fields.specs.declared.Place.TheVariants.{At, Short}
+use Rattle.fields.specs.Fields.{some_span, field_at}
+use Rattle.fields.specs.declared.Span.{Span}
 
 -- a field is read at a place, from its length and its bytes
 field_read_at : (s : List ℕ) (p : ℕ) → p < length s → get_or s p 0 ≤ length s - (p + 1)
@@ -35,43 +36,45 @@ field_none_at s p hp = rw (drop_of_length-le s hp)
 pub more : (n : ℕ) → 0 < n → n ≡ suc (n - 1)
 more n h = omega arith
 
+-- what is known of a field that was found
 pub record Placed (s : List ℕ) (p a e : ℕ) : Type 0 where
   pub first : a ≡ p + 1
   pub order : a ≤ e
   pub within : e ≤ length s
   pub read : read_field (drop p s) ≡ field (take (e - a) (drop a s)) (drop e s)
 
-pub placed : (s : List ℕ) (p a e : ℕ) (x : Place) → x ≡ field_at s p → x ≡ At a e → Placed s p a e
+pub placed : (s : List ℕ) (p a e : ℕ) (x : Option Span) → x ≡ field_at s p → x ≡ some_span a e → Placed s p a e
 placed s p a e x hx ha = go (ltb p (length s)) refl (leb (get_or s p 0) (length s - (p + 1))) refl (sym ha ∙ hx)
   where
     go : (b : Bool) → ltb p (length s) ≡ b → (d : Bool) → leb (get_or s p 0) (length s - (p + 1)) ≡ d
-        → At a e ≡ cond b (cond d (At (p + 1) (p + 1 + get_or s p 0)) Short) Short → Placed s p a e
+        → some_span a e ≡ cond b (cond d (some_span (p + 1) (p + 1 + get_or s p 0)) None) None → Placed s p a e
     go true hb true hd h =
-        let ea : a ≡ p + 1 = cc in
-        let ee : e ≡ p + 1 + get_or s p 0 = cc in
+        let k : ◌≡◌ {A = Span} (record { start = a; end = e }) (record { start = p + 1; end = p + 1 + get_or s p 0 }) = cc in
+        let ea : a ≡ p + 1 = ap (λ (x : Span). x.start) k in
+        let ee : e ≡ p + 1 + get_or s p 0 = ap (λ (x : Span). x.end) k in
         let en : e - a ≡ get_or s p 0 = omega arith in
         let hp : p < length s = ltb-true p (length s) hb in
         let hn : get_or s p 0 ≤ length s - (p + 1) = leb-true (get_or s p 0) (length s - (p + 1)) hd in
         record { first = ea; order = omega arith; within = omega arith; read = rw (en, ea, ee) (field_read_at s p hp hn) }
-    go true hb false hd h = absurd (let z : ◌≡◌ {A = ℕ} 0 1 = cc in omega arith)
-    go false hb d hd h = absurd (let z : ◌≡◌ {A = ℕ} 0 1 = cc in omega arith)
+    go true hb false hd h = grind arith
+    go false hb d hd h = grind arith
 
-pub unplaced : (s : List ℕ) (p : ℕ) (x : Place) → x ≡ field_at s p → x ≡ Short → read_field (drop p s) ≡ short
+pub unplaced : (s : List ℕ) (p : ℕ) (x : Option Span) → x ≡ field_at s p → x ≡ None → read_field (drop p s) ≡ short
 unplaced s p x hx ha = go (ltb p (length s)) refl (leb (get_or s p 0) (length s - (p + 1))) refl (sym ha ∙ hx)
   where
     go : (b : Bool) → ltb p (length s) ≡ b → (d : Bool) → leb (get_or s p 0) (length s - (p + 1)) ≡ d
-        → Short ≡ cond b (cond d (At (p + 1) (p + 1 + get_or s p 0)) Short) Short → read_field (drop p s) ≡ short
-    go true hb true hd h = absurd (let z : ◌≡◌ {A = ℕ} 0 1 = cc in omega arith)
+        → None ≡ cond b (cond d (some_span (p + 1) (p + 1 + get_or s p 0)) None) None → read_field (drop p s) ≡ short
+    go true hb true hd h = grind arith
     go true hb false hd h = field_short_at s p (ltb-true p (length s) hb) (leb-false (get_or s p 0) (length s - (p + 1)) hd)
     go false hb d hd h = field_none_at s p (ltb-false p (length s) hb)
 
 -- the bounds, for `search`
-module _ (s : List ℕ) (p a e : ℕ) (x : Place) (hx : x ≡ field_at s p) (ha : x ≡ At a e) where
-  pub place_order : a ≤ e
-  place_order = (placed s p a e x hx ha).order
+module _ (s : List ℕ) (p : ℕ) (x : Option Span) (y : Span) (hx : x ≡ field_at s p) (hy : x ≡ Some y) where
+  pub place_order : y.start ≤ y.end
+  place_order = (placed s p y.start y.end x hx hy).order
 
-  pub place_within : e ≤ length s
-  place_within = (placed s p a e x hx ha).within
+  pub place_within : y.end ≤ length s
+  place_within = (placed s p y.start y.end x hx hy).within
 
 -- a byte that was read fits a usize: from the slice's own rule, `c.shared-slice-known.given`
 pub byte_fits : (s : List ℕ) (i : ℕ) → ((j : ℕ) → Fits w8 (get_or s j 0)) → Fits w64 (get_or s i 0)

@@ -5,63 +5,43 @@ ghost use Rattle.std.specs.Prelude.{◌≡◌};
 ghost use Rattle.model.specs.Labels.{below, same_bytes};
 ghost use Rattle.fields.specs.Fields.{field_at};
 
+#[tactic(auto, using(crate::proofs::Bytes::equal_bytes))]
 pub fn same_bytes(a: &[u8], b: &[u8]) -> bool
     ensures { result ≡ same_bytes a.now b.now }
 {
-    if a.len() != b.len() {
-        return false;
-    }
-    let mut i = 0;
-    while i < a.len() {
-        if a[i] != b[i] {
-            return false;
-        }
-        i += 1;
-    }
-    true
+    a == b
 }
 
 // Whether the key a comes before the key b.
+#[tactic(auto, using(crate::proofs::Bytes::lower_bytes))]
 pub fn is_below(a: &[u8], b: &[u8]) -> bool
     ensures { result ≡ below a.now b.now }
 {
-    let mut i = 0;
-    while i < a.len() {
-        if b.len() <= i {
-            return false;
-        }
-        if a[i] < b[i] {
-            return true;
-        }
-        if b[i] < a[i] {
-            return false;
-        }
-        i += 1;
-    }
-    i < b.len()
+    a < b
 }
 
-// A field at a place: where its bytes start and end.
-#[derive(Clone, Copy)]
-pub enum Place {
-    At { start: usize, end: usize },
-    Short,
+// Where a field's bytes start and end.
+#[derive(Clone, Copy, Debug, PartialEq, Eq)]
+pub struct Span {
+    pub start: usize,
+    pub end: usize,
 }
 
-pub fn field_at(s: &[u8], at: usize) -> Place
+// The field at a place; nothing where the bytes end before it does.
+pub fn field_at(s: &[u8], at: usize) -> Option<Span>
     ensures { result ≡ field_at s.now at }
 {
     if s.len() <= at {
-        return Place::Short;
+        return None;
     }
-    let n = s[at] as usize;
+    let n = usize::from(s[at]);
     let start = at + 1;
     if n <= s.len() - start {
-        Place::At {
+        Some(Span {
             start,
             end: start + n,
-        }
+        })
     } else {
-        Place::Short
+        None
     }
 }

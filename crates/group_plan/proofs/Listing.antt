@@ -15,7 +15,7 @@ use Rattle.plan.specs.Aggregates.{firsts_from}
 use Rattle.end_codes.specs.Codes.{side_first}
 use Rattle.key_ends.specs.Ends.{SideEnds, side_first_lem, ends_at}
 use Rattle.index_lists.specs.Places.{NotedIf, NotedAll}
-use Rattle.index_lists.proofs.Noting.{noted_most, Noting, noting_starts, noting_turn, noting_length, noting_ends}
+use Rattle.index_lists.proofs.Noting.{noted_most, Noting, noting_turn, noting_ends}
 use Rattle.group_plan.specs.Codes.{group_code, group_codes}
 
 module _ (keys before : List ℕ) where
@@ -28,14 +28,7 @@ module _ (keys before : List ℕ) where
     pub few : n ≤ i
     pub noting : Noting (group_codes keys) 0 before (codes_left i) n list
 
-  pub listing_starts : Listing 0 0 before
-  listing_starts =
-      record { reached = omega arith; few = omega arith; noting = noting_starts (group_codes keys) 0 before }
-
   module _ (n i : ℕ) (list : List ℕ) (inv : Listing n i list) where
-    pub listing_length : length list ≡ length before
-    listing_length = noting_length (group_codes keys) 0 before (codes_left i) n list inv.noting
-
     pub listing_ends : length keys ≤ i → NotedAll (group_codes keys) 0 before list n
     unfolding firsts_from
     listing_ends h =

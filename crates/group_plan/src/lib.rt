@@ -13,13 +13,11 @@ fn list_groups(keys: &[usize], ends: &[usize], codes: &mut [usize]) -> usize
     requires side_ends { SideEnds keys.now keys.now ends.now }
     ensures { NotedAll (group_codes keys.now) 0 codes.old codes.new result }
 {
-    let mut n: usize = 0;
-    let mut i: usize = 0;
-    while i < keys.len() {
+    let mut n = 0;
+    for i in 0..keys.len() {
         let e = ends[i];
         let here = end_codes::side_first(e) == i;
         n = index_lists::note_if(here, e, n, codes);
-        i += 1;
     }
     n
 }

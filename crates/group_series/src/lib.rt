@@ -37,10 +37,7 @@ fn include_rows(
         return;
     }
     let k = keys[last];
-    let mut j = first;
-    while j <= last {
-        let i = j;
-        j += 1;
+    for i in first..last + 1 {
         if keys[i] == k {
             points::include_row(
                 side_parts::row(rows, sums.len(), i),

@@ -67,7 +67,7 @@ fn include_at(
     ensures { IncludedAt x i (points sums.old lowest.old highest.old counts.old)
         (points sums.new lowest.new highest.new counts.new) }
 {
-    let t = running::with_reading(point(lowest, highest, counts, sums, i), x);
+    let t = point(lowest, highest, counts, sums, i).with_reading(x);
     put_point(t, i, lowest, highest, counts, sums);
 }
 
@@ -77,10 +77,8 @@ pub(crate) fn begin(lowest: &mut [u64], highest: &mut [u64], counts: &mut [usize
     ensures { Begun (points sums.old lowest.old highest.old counts.old)
         (points sums.new lowest.new highest.new counts.new) }
 {
-    let mut i: usize = 0;
-    while i < sums.len() {
-        put_point(running::new(), i, lowest, highest, counts, sums);
-        i += 1;
+    for i in 0..sums.len() {
+        put_point(Running::new(), i, lowest, highest, counts, sums);
     }
 }
 
@@ -99,10 +97,8 @@ pub(crate) fn include_row(
         (points sums.old lowest.old highest.old counts.old)
         (points sums.new lowest.new highest.new counts.new) }
 {
-    let mut i: usize = 0;
-    while i < sums.len() {
+    for i in 0..sums.len() {
         include_at(row[i], i, lowest, highest, counts, sums);
-        i += 1;
     }
 }
 
@@ -120,9 +116,7 @@ pub(crate) fn put_readings(
         (points sums.old lowest.now highest.now counts.now)
         sums.new }
 {
-    let mut i: usize = 0;
-    while i < sums.len() {
-        sums[i] = running::reading_of(aggregate, point(lowest, highest, counts, sums, i));
-        i += 1;
+    for i in 0..sums.len() {
+        sums[i] = point(lowest, highest, counts, sums, i).reading_of(aggregate);
     }
 }

@@ -23,7 +23,7 @@ fn float_of(x: u64) -> f64
     ensures { result ≡ from_bits binary64 x }
 {
     if reading::is_missing(x) {
-        0.0 / 0.0
+        f64::NAN
     } else {
         f64::from_bits(x)
     }
@@ -35,24 +35,10 @@ pub(crate) fn own_float(x: u64) -> f64
     ensures { result ≡ from_bits binary64 x }
 {
     if x == reading::MISSING {
-        0.0 / 0.0
+        f64::NAN
     } else {
         f64::from_bits(x)
     }
-}
-
-// One of two floats. Where both are at hand already, nothing waits for the choice.
-fn pick(c: bool, x: f64, y: f64) -> f64
-    ensures { result ≡ (if c then x else y) }
-{
-    if c { x } else { y }
-}
-
-// One of two counts.
-fn pick_count(c: bool, x: usize, y: usize) -> usize
-    ensures { result ≡ (if c then x else y) }
-{
-    if c { x } else { y }
 }
 
 // One of two running aggregates, each part by itself.
@@ -60,79 +46,81 @@ fn one_of(c: bool, s: Running, t: Running) -> Running
     ensures { result ≡ (if c then s else t) }
 {
     Running {
-        sum: pick(c, s.sum, t.sum),
-        lowest: pick(c, s.lowest, t.lowest),
-        highest: pick(c, s.highest, t.highest),
-        count: pick_count(c, s.count, t.count),
+        sum: reading::pick(c, s.sum, t.sum),
+        lowest: reading::pick(c, s.lowest, t.lowest),
+        highest: reading::pick(c, s.highest, t.highest),
+        count: reading::pick(c, s.count, t.count),
     }
 }
 
-// No present reading yet.
-pub(crate) fn new() -> Running
-    ensures { meant result ≡ nothing_yet }
-{
-    Running {
-        sum: 0.0,
-        lowest: 0.0,
-        highest: 0.0,
-        count: 0,
+impl Running {
+    // No present reading yet.
+    pub(crate) fn new() -> Running
+        ensures { meant result ≡ nothing_yet }
+    {
+        Running {
+            sum: 0.0,
+            lowest: 0.0,
+            highest: 0.0,
+            count: 0,
+        }
     }
-}
 
-// The first present reading.
-fn start(x: f64) -> Running
-    ensures { meant result ≡ started x }
-{
-    Running {
-        sum: x,
-        lowest: x,
-        highest: x,
-        count: 1,
+    // The first present reading.
+    fn start(x: f64) -> Running
+        ensures { meant result ≡ started x }
+    {
+        Running {
+            sum: x,
+            lowest: x,
+            highest: x,
+            count: 1,
+        }
     }
-}
 
-// One more present reading behind a first.
-fn extend(t: Running, x: f64) -> Running
-    requires { t.count ≤ max_series }
-    ensures { meant result ≡ extended (meant t) x }
-{
-    Running {
-        sum: t.sum + x,
-        lowest: pick(x < t.lowest, x, t.lowest),
-        highest: pick(t.highest < x, x, t.highest),
-        count: t.count + 1,
+    // One more present reading behind a first.
+    fn extend(self, x: f64) -> Running
+        requires { self.count ≤ max_series }
+        ensures { meant result ≡ extended (meant self) x }
+    {
+        Running {
+            sum: self.sum + x,
+            lowest: reading::pick(x < self.lowest, x, self.lowest),
+            highest: reading::pick(self.highest < x, x, self.highest),
+            count: self.count + 1,
+        }
     }
-}
 
-// One more present reading.
-fn include(t: Running, x: f64) -> Running
-    requires { t.count ≤ max_series }
-    ensures { meant result ≡ included (meant t) x }
-{
-    one_of(t.count == 0, start(x), extend(t, x))
-}
-
-// One more reading, which may be missing.
-pub(crate) fn with_reading(t: Running, x: u64) -> Running
-    requires { t.count ≤ max_series }
-    ensures { meant result ≡ with_reading (meant t) x }
-{
-    one_of(reading::is_missing(x), t, include(t, float_of(x)))
-}
-
-// The reading of an aggregate, or MISSING where there is no present reading.
-pub(crate) fn reading_of(aggregate: Aggregate, t: Running) -> u64
-    ensures { result ≡ reading_in (meant t) (aggregate_of aggregate) }
-{
-    let n = t.count;
-    if n == 0 {
-        return reading::MISSING;
+    // One more present reading.
+    fn include(self, x: f64) -> Running
+        requires { self.count ≤ max_series }
+        ensures { meant result ≡ included (meant self) x }
+    {
+        one_of(self.count == 0, Running::start(x), self.extend(x))
     }
-    match aggregate {
-        Aggregate::Sum => reading::written(t.sum),
-        Aggregate::Min => reading::written(t.lowest),
-        Aggregate::Max => reading::written(t.highest),
-        Aggregate::Count => reading::written(std::num::nearest_u64_to_f64(n as u64)),
-        Aggregate::Avg => reading::written(t.sum / std::num::nearest_u64_to_f64(n as u64)),
+
+    // One more reading, which may be missing.
+    pub(crate) fn with_reading(self, x: u64) -> Running
+        requires { self.count ≤ max_series }
+        ensures { meant result ≡ with_reading (meant self) x }
+    {
+        one_of(reading::is_missing(x), self, self.include(float_of(x)))
+    }
+
+    // The reading of an aggregate, or MISSING where there is no present reading.
+    pub(crate) fn reading_of(self, aggregate: Aggregate) -> u64
+        ensures { result ≡ reading_in (meant self) (aggregate_of aggregate) }
+    {
+        let n = self.count;
+        if n == 0 {
+            return reading::MISSING;
+        }
+        match aggregate {
+            Aggregate::Sum => reading::written(self.sum),
+            Aggregate::Min => reading::written(self.lowest),
+            Aggregate::Max => reading::written(self.highest),
+            Aggregate::Count => reading::written(std::num::nearest_u64_to_f64(n as u64)),
+            Aggregate::Avg => reading::written(self.sum / std::num::nearest_u64_to_f64(n as u64)),
+        }
     }
 }

@@ -40,14 +40,13 @@ module _ (keys : List ℕ) (first last : ℕ) (before : List ℕ) where
     reach : length (take (last + 1) keys) ≡ last + 1
     reach = simp length-take (omega arith)
 
-    pub met_turn : j ≤ last → (later : List ℕ) (r : ℕ)
+    pub met_turn : j < last + 1 → (later : List ℕ) (r : ℕ)
         → NotedIf (eqb (get_or keys j 0) (get_or keys last 0)) j n places later r → Meeting r (j + 1) later
     met_turn l later r p =
-        let k : j < last + 1 = omega arith in
         gather_turn (take (last + 1) keys) (get_or keys last 0) first before n j places g (omega (arith, reach)) later r
-        (rw (get_or-take (last + 1) keys j 0 k) p)
+        (rw (get_or-take (last + 1) keys j 0 l) p)
 
-    pub met_ends : last < j → NotedAll (coded_met keys first last) 0 before places n
+    pub met_ends : last + 1 ≤ j → NotedAll (coded_met keys first last) 0 before places n
     unfolding coded_met
     met_ends l =
         rw (lt-ltb last (length keys) h)

@@ -7,21 +7,12 @@ use native.Mathlib.Numerals.{add-one}
 use native.Mathlib.Nat.{zero-add}
 use native.Mathlib.Omega.{arith}
 use lib.Dec.{eqb}
-use lib.ListN.{length, get_or, take, drop, set, drop_of_length-le}
-use lib.Seq.{drop-cons, set_out, sets, sets-eq, length-sets, take_at}
+use lib.ListN.{length, get_or, take, drop, drop_of_length-le}
+use lib.Seq.{drop-cons, sets, sets-eq, length-sets, take_at}
 use Rattle.plan.specs.Sets.{places_of}
 use Rattle.index_lists.specs.Places.{NotedIf, NotedAll}
 
 -- one number
-
-pub noted_full : (list : List ℕ) (n x : ℕ) → length list ≤ n → list ≡ set list n x
-noted_full list n x h = sym (set_out list n x h)
-
-pub noted_here : (here : Bool) (x n : ℕ) (before after : List ℕ) → here ≡ true → after ≡ set before n x → NotedIf here x n before after (n + 1)
-noted_here here x n before after e h = rw e (record { count = refl; content = h })
-
-pub noted_not : (here : Bool) (x n : ℕ) (before : List ℕ) → here ≡ false → NotedIf here x n before before n
-noted_not here x n before e = rw e (record { count = refl; content = refl })
 
 pub noted_most : (here : Bool) (x n i : ℕ) (before after : List ℕ) (r : ℕ) → n ≤ i → NotedIf here x n before after r
     → r ≤ i + 1
@@ -88,9 +79,6 @@ module _ (xs : List ℕ) (k first : ℕ) (before : List ℕ) where
         few = noted_most (eqb (get_or xs j 0) k) j n j places later r g.few p;
         noting = noting_turn all 0 before (eqb (get_or xs j 0) k) j n places later behind r (rw next at g.noting) p;
       }
-
-    pub gather_length : length places ≡ length before
-    gather_length = noting_length all 0 before (places_of k j (drop j xs)) n places g.noting
 
     pub gather_ends : length xs ≤ j → NotedAll all 0 before places n
     unfolding places_of

@@ -9,6 +9,7 @@ ghost use Rattle.index_lists.specs.Places.{NotedIf, NotedAll, coded_met};
 pub fn note(list: &mut [usize], n: usize, x: usize)
     ensures { list.new ≡ set list.old n x }
 {
+    // By its index: of what a list is after `get_mut` no clause speaks.
     if n < list.len() {
         list[n] = x;
     }
@@ -35,11 +36,9 @@ pub fn met(keys: &[usize], first: usize, last: usize, places: &mut [usize]) -> u
         return 0;
     }
     let k = keys[last];
-    let mut n: usize = 0;
-    let mut j = first;
-    while j <= last {
+    let mut n = 0;
+    for j in first..last + 1 {
         n = note_if(keys[j] == k, j, n, places);
-        j += 1;
     }
     n
 }

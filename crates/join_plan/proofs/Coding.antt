@@ -14,8 +14,8 @@ use Rattle.plan.specs.Joins.{JoinWork, edit_of, many_place, one_place, join_labe
 use Rattle.plan.specs.Pairs.{no_labels}
 use Rattle.side_parts.specs.Sides.{row_at}
 use Rattle.side_parts.specs.Lent.{Sides, side_labels, BothHeld}
-use Rattle.answers.specs.declared.Planned.{Planned}
-use Rattle.answers.specs.declared.Planned.TheVariants.{Rows}
+use Rattle.std.specs.Prelude.{Result, Ok}
+use Rattle.answers.specs.declared.Twice.{Twice}
 use Rattle.answers.specs.Plans.{PlannedAs, up_from, up_to}
 use Rattle.answers.proofs.Planning.{planned_clear, planned_count, planned_codes}
 use Rattle.row_marks.specs.WordLaws.{part_marks}
@@ -107,10 +107,10 @@ module _ (w : Work) (join skip : Names) (s : Sides) (held : BothHeld s) where
 
   -- a plan without a clash, whose codes the list has room for
 
-  module _ (codes₀ codes : List ℕ) (r : Planned)
+  module _ (codes₀ codes : List ℕ) (r : Result ℕ Twice)
       (planned : PlannedAs (first_clash work (many_side w) s) (join_codes work s) (early_codes work (many_side w) s) codes₀
       codes r)
-      (n : ℕ) (h : r ≡ Rows n) (few : n ≤ max_series) (room : max_series ≤ length codes₀) where
+      (n : ℕ) (h : r ≡ Ok n) (few : n ≤ max_series) (room : max_series ≤ length codes₀) where
     clear : first_clash work (many_side w) s ≡ none
     clear =
         planned_clear (first_clash work (many_side w) s) (join_codes work s) (early_codes work (many_side w) s) codes₀ codes

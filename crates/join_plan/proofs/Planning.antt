@@ -1,6 +1,6 @@
--- `one_twice` and `plan_join`: all many-side places planned, one by one. Assumes nothing.
+-- `plan_join`: all many-side places planned, one by one. Assumes nothing.
 use Prim.Native.Nat.{ℕ, zero, suc, ◌+◌, ◌-◌, ◌*◌, ◌/◌, ◌≤◌, ◌<◌}
-use mathlib.Core.Path.{◌≡◌, refl, sym, ap, ◌∙◌}
+use mathlib.Core.Path.{◌≡◌, refl, sym, ap, subst, ◌∙◌}
 use mathlib.Core.Bool.{Bool, true, false, cond}
 use mathlib.Core.Option.{Option, none, some}
 use mathlib.Core.List.{List, [], ◌∷◌, ◌++◌, append_assoc, append-nil}
@@ -29,14 +29,13 @@ use Rattle.plan.specs.Joins.{join_rows_from}
 use Rattle.record_tags.specs.Lenient.{labels_of}
 use Rattle.side_parts.specs.Sides.{record_at}
 use Rattle.side_parts.specs.Lent.{Sides, side_labels, BothHeld}
-use Rattle.answers.specs.declared.Planned.{Planned}
-use Rattle.answers.specs.declared.Planned.TheVariants.{Rows, LeftTwice, RightTwice}
+use Rattle.std.specs.Prelude.{Result, Ok, Err, MatchResult, IsErrAnd}
+use Rattle.answers.specs.declared.Clash.{Clash}
+use Rattle.answers.specs.declared.Twice.{Twice}
 use Rattle.answers.specs.Plans.{duplicate, PlannedAs}
-use Rattle.answers.proofs.Planning.{plan_left_twice, plan_right_twice, plan_rows}
+use Rattle.answers.proofs.Planning.{plan_twice, plan_rows}
 use Rattle.key_ends.specs.Ends.{SideEnds, EndsOf, side_first_lem, ends_at}
 use Rattle.index_lists.specs.Places.{NotedAll}
-use Rattle.join_plan.specs.declared.place_plans.Placed.{Placed}
-use Rattle.join_plan.specs.declared.place_plans.Placed.TheVariants as P
 use Rattle.join_plan.specs.join_leads.Checks.{RowsMarked}
 use Rattle.join_plan.specs.place_plans.Places.{Clean, PlacePlanned, PlaceMarked, PlaceDone, PlaceHeld}
 use Rattle.join_plan.specs.Plans.{unless_clash, rows_before_clash, first_clash, join_codes, early_codes, noted_codes}
@@ -45,13 +44,23 @@ use Rattle.join_plan.proofs.lead_marks.Leaders.{leads_among_long}
 use Rattle.join_plan.proofs.lead_marks.Marking.{labels_long, labels_here}
 use Rattle.join_plan.proofs.place_plans.Places.{placed_leads, part_last, part_noted, code_order}
 
--- `one_twice`
+-- what a place comes to, told by the side of its clash
+module _ (v : Result ℕ Clash) (x : Result ℕ Twice) (P : Clash → Twice → Type 0) where
+  told_rows : MatchResult v (λ c. x ≡ Ok c) (λ d. IsErrAnd x (P d)) → (c : ℕ) → x ≡ Ok c → v ≡ Ok c
+  told_rows m c e = go v m
+    where
+      go : (v : Result ℕ Clash) → MatchResult v (λ c. x ≡ Ok c) (λ d. IsErrAnd x (P d)) → v ≡ Ok c
+      go (Ok b) m = cc
+      go (Err d) m = elim (subst (λ y. IsErrAnd y (P d)) e m) [ ]
 
-pub twice_right : (l : Bool) (k i : ℕ) → l ≡ true → RightTwice k i ≡ one_twice l k i
-twice_right l k i h = rw h
-
-pub twice_left : (l : Bool) (k i : ℕ) → l ≡ false → LeftTwice k i ≡ one_twice l k i
-twice_left l k i h = rw h
+  told_failed : MatchResult v (λ c. x ≡ Ok c) (λ d. IsErrAnd x (P d)) → (r : Twice) → x ≡ Err r
+      → (d : Clash) × (v ≡ Err d) × P d r
+  told_failed m r e = go v m
+    where
+      go : (v : Result ℕ Clash) → MatchResult v (λ c. x ≡ Ok c) (λ d. IsErrAnd x (P d))
+          → (d : Clash) × (v ≡ Err d) × P d r
+      go (Ok b) m = absurd (let z : ◌≡◌ {A = ℕ} 0 1 = cc in omega arith)
+      go (Err d) m = (d, refl, subst (λ y. IsErrAnd y (P d)) e m)
 
 -- rows by leaders
 
@@ -311,7 +320,7 @@ module _ (w : JoinWork) (many : Side) (s : Sides) (ends list₀ marks₀ : List 
       noted_all : t.rest.sofar ≡ join_codes w s
       noted_all = end_rows w many s ks ls list₀ list n i t.rest h
 
-      pub planning_ends : PlannedAs (first_clash w many s) (join_codes w s) (early_codes w many s) list₀ list (Rows n)
+      pub planning_ends : PlannedAs (first_clash w many s) (join_codes w s) (early_codes w many s) list₀ list (Ok n)
       planning_ends =
           plan_rows (first_clash w many s) (join_codes w s) (early_codes w many s) list₀ list clear n
           (t.rest.count ∙ ap length noted_all) (t.rest.stored ∙ ap (sets list₀ 0) noted_all)
@@ -406,7 +415,7 @@ module _ (w : JoinWork) (many : Side) (s : Sides) (ends list₀ marks₀ : List 
             clean = t.clean;
           }
 
-          module _ (f : key ≡ dropped → ⊥) (list' marks' : List ℕ) (v : Placed)
+          module _ (f : key ≡ dropped → ⊥) (list' marks' : List ℕ) (v : Result ℕ Clash)
               (planned : PlaceDone w.allowance i (get_or ends i 0) n p s.right.rows (take count leads') list marks
               list' marks' v) where
             here : get_or ls i no_labels ≡ labels_of x
@@ -426,41 +435,52 @@ module _ (w : JoinWork) (many : Side) (s : Sides) (ends list₀ marks₀ : List 
 
             -- a merge that fails
 
-            module _ (kept failed : ℕ) (e : v ≡ P.Failed kept failed) where
-              fails : led_clash w.allowance (other many) s lead ≡ some (duplicate (other many) kept failed)
+            module _ (d : Clash) (e : v ≡ Err d) where
+              fails : led_clash w.allowance (other many) s lead ≡ some (duplicate (other many) d.kept d.failed)
               fails = by_lead.clash (other many) ∙ rw e
 
-              clash_found : first_clash w many s ≡ some (duplicate (other many) kept failed)
+              clash_found : first_clash w many s ≡ some (duplicate (other many) d.kept d.failed)
               clash_found =
                   rest_failed w many s ks ls list₀ list n i t.rest h inside key (labels_of x) hk here f
-                  (duplicate (other many) kept failed) fails
+                  (duplicate (other many) d.kept d.failed) fails
 
               noted_early : t.rest.sofar ≡ early_codes w many s
               noted_early =
                   rest_stopped w many s ks ls list₀ list n i t.rest h inside key (labels_of x) hk here f
-                  (duplicate (other many) kept failed) fails
+                  (duplicate (other many) d.kept d.failed) fails
 
               list_early : list' ≡ sets list₀ 0 (early_codes w many s)
-              list_early = by_lead.notes.stopped kept failed e ∙ t.rest.stored ∙ ap (sets list₀ 0) noted_early
+              list_early = by_lead.notes.stopped d e ∙ t.rest.stored ∙ ap (sets list₀ 0) noted_early
 
-              pub planning_failed : (l : Bool) → many ≡ cond l left right → (r : Planned) → r ≡ one_twice l kept failed
-                  → PlannedAs (first_clash w many s) (join_codes w s) (early_codes w many s) list₀ list' r
+              planning_failed : (l : Bool) → many ≡ cond l left right → (r : Twice) → r ≡ one_twice l d
+                  → PlannedAs (first_clash w many s) (join_codes w s) (early_codes w many s) list₀ list' (Err r)
               planning_failed l hl r hr = rw hr (twice l (first_clash w many s) (clash_found ∙ rw hl))
                 where
                   twice : (l : Bool) (c : Option Duplicate)
-                      → c ≡ some (duplicate (other (cond l left right)) kept failed)
-                      → PlannedAs c (join_codes w s) (early_codes w many s) list₀ list' (one_twice l kept failed)
-                  twice true c z = plan_right_twice c (join_codes w s) (early_codes w many s) list₀ list' kept failed z
+                      → c ≡ some (duplicate (other (cond l left right)) d.kept d.failed)
+                      → PlannedAs c (join_codes w s) (early_codes w many s) list₀ list' (Err (one_twice l d))
+                  twice true c z = plan_twice c (join_codes w s) (early_codes w many s) list₀ list' (one_twice true d) z
                       list_early
-                  twice false c z = plan_left_twice c (join_codes w s) (early_codes w many s) list₀ list' kept failed z
+                  twice false c z = plan_twice c (join_codes w s) (early_codes w many s) list₀ list' (one_twice false d) z
                       list_early
 
-              pub marks_failed : MarksPlanned w s (length (noted_codes w many s)) list' marks₀ marks'
+              marks_failed : MarksPlanned w s (length (noted_codes w many s)) list' marks₀ marks'
               marks_failed =
-                  rw (by_lead.notes.stopped kept failed e, by_lead.marked.stopped kept failed e)
+                  rw (by_lead.notes.stopped d e, by_lead.marked.stopped d e)
                   (rows_marked (rw clash_found (t.rest.count ∙ ap length noted_early)))
 
-            module _ (c : ℕ) (e : v ≡ P.Rows c) where
+            module _ (x : Result ℕ Twice) (P : Clash → Twice → Type 0)
+                (m : MatchResult v (λ c. x ≡ Ok c) (λ d. IsErrAnd x (P d))) (r : Twice) (e : x ≡ Err r) where
+              pub planning_told : (l : Bool) → many ≡ cond l left right
+                  → ((d : Clash) (r : Twice) → P d r → r ≡ one_twice l d)
+                  → PlannedAs (first_clash w many s) (join_codes w s) (early_codes w many s) list₀ list' (Err r)
+              planning_told l hl tells =
+                  let d = told_failed v x P m r e in planning_failed d.0 d.1 l hl r (tells d.0 r d.2)
+
+              pub marks_told : MarksPlanned w s (length (noted_codes w many s)) list' marks₀ marks'
+              marks_told = let d = told_failed v x P m r e in marks_failed d.0 d.1
+
+            module _ (c : ℕ) (e : v ≡ Ok c) where
               noted : NotedAll (lead_rows i 0 lead) n list list' c
               noted = by_lead.notes.noted c e
 
@@ -495,7 +515,7 @@ module _ (w : JoinWork) (many : Side) (s : Sides) (ends list₀ marks₀ : List 
                   let is : leads_at w s (many_place (get_or list' j 0)) ≡ lead = rw (place, ← hk, here) in
                   rw is (rows.marks j a b l (omega (arith, r, t.words)))
 
-              pub planning_rows : (work' : List ℕ) → length work' ≡ length work
+              planning_rows : (work' : List ℕ) → length work' ≡ length work
                   → Planning w many s ends list₀ marks₀ leads' lasts' work' list' marks' c (i + 1)
               planning_rows work' hw = record {
                 held = t.held;
@@ -518,3 +538,9 @@ module _ (w : JoinWork) (many : Side) (s : Sides) (ends list₀ marks₀ : List 
                 marked = λ j a l r. cases (ltb j n) (λ y. old j (ltb-true j n y) l r)
                     (λ y. new j (ltb-false j n y) a l r);
               }
+
+            pub planning_placed : (x : Result ℕ Twice) (P : Clash → Twice → Type 0)
+                → MatchResult v (λ c. x ≡ Ok c) (λ d. IsErrAnd x (P d)) → (c : ℕ) → x ≡ Ok c
+                → (work' : List ℕ) → length work' ≡ length work
+                → Planning w many s ends list₀ marks₀ leads' lasts' work' list' marks' c (i + 1)
+            planning_placed x P m c e = planning_rows c (told_rows v x P m c e)

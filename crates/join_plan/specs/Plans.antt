@@ -7,8 +7,9 @@ use Rattle.semantics.specs.Events.{Duplicate}
 use Rattle.plan.specs.Pairs.{no_labels}
 use Rattle.plan.specs.Joins.{JoinWork, leads_for, many_place, one_place, join_clash, join_rows_from}
 use Rattle.side_parts.specs.Lent.{Sides, side_labels}
-use Rattle.answers.specs.declared.Planned.{Planned}
-use Rattle.answers.specs.declared.Planned.TheVariants.{LeftTwice, RightTwice}
+use Rattle.answers.specs.declared.Clash.{Clash}
+use Rattle.answers.specs.declared.Twice.{Twice}
+use Rattle.answers.specs.declared.Twice.TheVariants.{Left, Right}
 use Rattle.answers.specs.Plans.{noted_by}
 use Rattle.row_marks.specs.Words.{MarksAt}
 use Rattle.join_plan.specs.place_plans.Places.{Clean}
@@ -44,8 +45,8 @@ abbrev pub noted_codes : JoinWork → Side → Sides → List ℕ
 noted_codes w many s = noted_by (first_clash w many s) (join_codes w s) (early_codes w many s)
 
 -- 01: 7 left or 8 right duplicate. Of a join, on the one side.
-abbrev pub one_twice : Bool → ℕ → ℕ → Planned
-one_twice left kept failed = cond left (RightTwice kept failed) (LeftTwice kept failed)
+abbrev pub one_twice : Bool → Clash → Twice
+one_twice left clash = cond left (Right clash) (Left clash)
 
 -- the leaders of the many-side place m
 abbrev pub leads_at : JoinWork → Sides → ℕ → List ℕ

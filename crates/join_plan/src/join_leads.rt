@@ -6,7 +6,8 @@ ghost use Rattle.index_lists.specs.Places.{NotedAll};
 ghost use Rattle.join_plan.specs.lead_marks.Marks.{LastsNoted};
 ghost use Rattle.join_plan.specs.join_leads.Checks.{TriedAs, ClashOf, CodesFit, RowFits, RowsListed};
 
-use merging::Merges;
+use answers::Clash;
+use merging::Unmerged;
 
 // The merges behind a leader up to a place, tried in a work row as wide as any.
 fn try_lead(
@@ -16,7 +17,7 @@ fn try_lead(
     last: usize,
     allowance: usize,
     work: &mut [u64],
-) -> Merges
+) -> Result<(), Unmerged>
     requires order { o ≤ last }
     requires inside { last < length leads.now }
     requires held { length leads.now * length work.old ≤ length rows.now }
@@ -25,17 +26,10 @@ fn try_lead(
         result }
 {
     if last == o {
-        return Merges::Done;
+        return Ok(());
     }
     let end = last + 1;
     merging::merge_lead(rows, &leads[..end], o, allowance, work)
-}
-
-// What the merges of a many-side series come to.
-#[derive(Clone, Copy)]
-pub(crate) enum Checked {
-    Done,
-    Failed { kept: usize, failed: usize },
 }
 
 // Every merge of a many-side series, up to the first that fails; its leaders stand from a place on.
@@ -46,28 +40,22 @@ pub(crate) fn check_leads(
     first: usize,
     allowance: usize,
     work: &mut [u64],
-) -> Checked
+) -> Result<(), Clash>
     requires noted { LastsNoted first leads.now lasts.now }
     requires order { first ≤ length leads.now }
     requires room { length leads.now ≤ length lasts.now }
     requires held { length leads.now * length work.old ≤ length rows.now }
     ensures { ClashOf allowance (length work.old) rows.now first leads.now result }
 {
-    let mut n = first;
-    while n < leads.len() {
-        let o = n;
-        n += 1;
+    for o in first..leads.len() {
         if leads[o] == o {
-            let m = try_lead(rows, leads, o, lasts[o], allowance, work);
-            match m {
-                Merges::Done => {}
-                Merges::FailedAt(i) => {
-                    return Checked::Failed { kept: o, failed: i };
-                }
-            }
+            try_lead(rows, leads, o, lasts[o], allowance, work).map_err(|e| Clash {
+                kept: o,
+                failed: e.0,
+            })?;
         }
     }
-    Checked::Done
+    Ok(())
 }
 
 // Notes the answer row of the many-side place m and the one-side place o behind the n before, and gives their number.
@@ -99,10 +87,7 @@ pub(crate) fn list_leads(
         marks.new result }
 {
     let mut r = n;
-    let mut i = first;
-    while i < leads.len() {
-        let o = i;
-        i += 1;
+    for o in first..leads.len() {
         if leads[o] == o {
             row_marks::mark_row(leads, o, lasts[o], r * 8, marks);
             r = list_lead(m, o, r, list);

@@ -47,16 +47,12 @@ fn find_lead<'a>(
         at.now leads.now hashes.now from o result }
 {
     let rec = side_parts::record(array, at, o);
-    let mut n = from;
-    while n < o {
-        let i = n;
-        n += 1;
-        if leads[i] == i {
-            if hashes[i] == h {
-                if set_tags::same_edited(many, side_parts::record(array, at, i), rec, join, skip) {
-                    return i;
-                }
-            }
+    for i in from..o {
+        if leads[i] == i
+            && hashes[i] == h
+            && set_tags::same_edited(many, side_parts::record(array, at, i), rec, join, skip)
+        {
+            return i;
         }
     }
     o
@@ -93,10 +89,7 @@ pub(crate) fn mark_leads<'a>(
     let skip = lists[1];
     // 65535: nothing is noted
     let mut table = [65535u16; 512];
-    let mut i = first;
-    while i <= last {
-        let o = i;
-        i += 1;
+    for o in first..last + 1 {
         if keys[o] == k {
             let h = set_tags::hash_edited(many, side_parts::record(array, at, o), join, skip);
             let from = note_bucket(&mut table, h, o);
@@ -114,9 +107,7 @@ pub(crate) fn note_lasts(leads: &[usize], first: usize, lasts: &mut [usize])
     requires room { length leads.now ≤ length lasts.old }
     ensures { LastsNoted first leads.now lasts.new }
 {
-    let mut i = first;
-    while i < leads.len() {
+    for i in first..leads.len() {
         index_lists::note(lasts, leads[i], i);
-        i += 1;
     }
 }

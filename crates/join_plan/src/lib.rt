@@ -13,19 +13,18 @@ ghost use Rattle.join_series.specs.Works.{many_side, work_by};
 ghost use Rattle.join_plan.specs.Plans.{first_clash, join_codes, early_codes, noted_codes, MarksPlanned, one_twice};
 ghost use Rattle.join_plan.specs.place_plans.Places.{Clean};
 
-use crate::place_plans::Placed;
-use answers::Planned;
+use answers::{Clash, Twice};
 use join_series::Work;
 use side_parts::Shape;
 
 // A merge that fails is one of the one side, which is right where the many side is left.
-fn one_twice(left: bool, kept: usize, failed: usize) -> Planned
-    ensures { result ≡ one_twice left kept failed }
+fn one_twice(left: bool, clash: Clash) -> Twice
+    ensures { result ≡ one_twice left clash }
 {
     if left {
-        Planned::RightTwice { kept, failed }
+        Twice::Right(clash)
     } else {
-        Planned::LeftTwice { kept, failed }
+        Twice::Left(clash)
     }
 }
 
@@ -41,7 +40,7 @@ pub fn plan_join(
     rows: [&[u64]; 2],
     codes: &mut [usize],
     marks: &mut [usize],
-) -> Planned
+) -> Result<usize, Twice>
     requires both_held { let s = sides (shape_of shape) labels at keys rows in BothHeld s }
     requires clean { Clean 0 marks.old }
     ensures planned_as { let s = sides (shape_of shape) labels.entry at.entry keys.entry rows.entry in
@@ -61,17 +60,14 @@ pub fn plan_join(
     // the hashes of a place's leaders, then a row that their merges are tried in
     let mut work = [0u64; 1024];
     let mut n: usize = 0;
-    let mut i: usize = 0;
-    while i < many.len() {
-        let m = i;
+    for m in 0..many.len() {
         let k = many[m];
-        i += 1;
         if k != key_ends::DROPPED {
             let c = ends[m];
             place_plans::place_leads(
                 m, k, c, labels, at, one, lists, &mut leads, &mut lasts, &mut work,
             );
-            match place_plans::plan_place(
+            n = place_plans::plan_place(
                 m,
                 c,
                 n,
@@ -82,11 +78,9 @@ pub fn plan_join(
                 &mut work[..shape.points],
                 codes,
                 marks,
-            ) {
-                Placed::Rows(more) => n = more,
-                Placed::Failed { kept, failed } => return one_twice(w.left, kept, failed),
-            }
+            )
+            .map_err(|clash| one_twice(w.left, clash))?;
         }
     }
-    Planned::Rows(n)
+    Ok(n)
 }

@@ -9,18 +9,11 @@ ghost use Rattle.join_plan.specs.lead_marks.Marks.{leads_in, LastsNoted};
 ghost use Rattle.join_plan.specs.join_leads.Checks.{CodesFit};
 ghost use Rattle.join_plan.specs.place_plans.Places.{LeadsPlanned, PlaceDone, PlaceMarked, PlaceHeld};
 
-use crate::join_leads::Checked;
 use crate::{join_leads, lead_marks};
-
-// What planning a many-side place comes to: how many answer rows there are by now, or the first merge that fails.
-#[derive(Clone, Copy)]
-pub(crate) enum Placed {
-    Rows(usize),
-    Failed { kept: usize, failed: usize },
-}
+use answers::Clash;
 
 // The merges behind the leaders of the many-side place m tried, and its answer rows noted behind the n before, with
-// the marks of their members. The leaders stand from the place `first` on.
+// the marks of their members, and how many rows there are by now. The leaders stand from the place `first` on.
 fn plan_leads(
     m: usize,
     first: usize,
@@ -32,7 +25,7 @@ fn plan_leads(
     work: &mut [u64],
     codes: &mut [usize],
     marks: &mut [usize],
-) -> Placed
+) -> Result<usize, Clash>
     requires noted { LastsNoted first leads.now lasts.now }
     requires order { first ≤ length leads.now }
     requires room { length leads.now ≤ length lasts.now }
@@ -41,12 +34,8 @@ fn plan_leads(
     ensures { LeadsPlanned allowance m n (length work.old) rows.now first leads.now
         codes.old marks.old codes.new marks.new result }
 {
-    match join_leads::check_leads(rows, leads, lasts, first, allowance, work) {
-        Checked::Done => Placed::Rows(join_leads::list_leads(
-            leads, lasts, first, m, n, codes, marks,
-        )),
-        Checked::Failed { kept, failed } => Placed::Failed { kept, failed },
-    }
+    join_leads::check_leads(rows, leads, lasts, first, allowance, work)?;
+    Ok(join_leads::list_leads(leads, lasts, first, m, n, codes, marks))
 }
 
 // The many-side place m, of a key whose first and last place on the one side are the code c. Where the key has no
@@ -62,7 +51,7 @@ pub(crate) fn plan_place(
     work: &mut [u64],
     codes: &mut [usize],
     marks: &mut [usize],
-) -> Placed
+) -> Result<usize, Clash>
     requires { PlaceHeld m c n (length work.old) rows.now leads.now lasts.now marks.old }
     ensures { PlaceDone allowance m c n (length work.old) rows.now leads.now
         codes.old marks.old codes.new marks.new result }
@@ -71,9 +60,9 @@ pub(crate) fn plan_place(
     let last = end_codes::side_last(c);
     if first == last {
         if first == leads.len() {
-            return Placed::Rows(n);
+            return Ok(n);
         }
-        return Placed::Rows(join_leads::list_lead(m, first, n, codes));
+        return Ok(join_leads::list_lead(m, first, n, codes));
     }
     let end = last + 1;
     plan_leads(

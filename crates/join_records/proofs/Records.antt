@@ -4,28 +4,25 @@ use mathlib.Core.Path.{◌≡◌, sym, ap, ◌∙◌}
 use mathlib.Core.List.{List}
 use native.Mathlib.Omega.{arith}
 use lib.ListN.{length}
-use Rattle.model.specs.Limits.{max_tags, max_label_bytes}
+use Rattle.model.specs.Limits.{max_label_bytes}
 use Rattle.model.specs.Labels.{WellFormed}
-use Rattle.model.specs.Record.{encode}
 use Rattle.model.specs.Edits.{Names}
 use Rattle.plan.specs.Joins.{many_place, one_place}
 use Rattle.record_tags.specs.Lenient.{labels_of}
-use Rattle.writing.specs.Written.{Put}
 use Rattle.kept_labels.specs.Edited.{Sized}
 use Rattle.kept_labels.specs.declared.Size.{Size}
 use Rattle.kept_labels.proofs.Sizes.{length-labels}
 use Rattle.set_tags.specs.declared.naming.Naming.{Naming}
 use Rattle.set_tags.specs.declared.naming.Naming.TheVariants.{Nobody, Many, Source}
-use Rattle.set_tags.specs.edited_tags.Walks.{edited_tags}
 use Rattle.set_tags.specs.naming.Namings.{name_of}
 use Rattle.set_tags.specs.Records.{ShortRecords, edited}
 use Rattle.set_tags.proofs.Sizes.{edited_short}
-use Rattle.side_parts.specs.Sides.{record_at, Positions}
+use Rattle.side_parts.specs.Sides.{record_at}
 use Rattle.side_parts.specs.SideLaws.{record_within}
 use Rattle.side_parts.specs.Lent.{Sides}
 use Rattle.answers.specs.Tallies.{SizedRecord}
 use Rattle.join_records.specs.Edits.{edited_by_lem}
-use Rattle.join_records.specs.Records.{coded_join_labels, JoinRecord, LabelRoom}
+use Rattle.join_records.specs.Records.{coded_join_labels, JoinRecord}
 
 -- a record of an array within the limit is within it
 record_short : (array at : List ℕ) (i : ℕ) (x : List ℕ) → x ≡ record_at array at i → length array ≤ max_label_bytes
@@ -40,12 +37,6 @@ named Many many source wm ws = wm.name.short
 named Source many source wm ws = ws.name.short
 
 module _ (s : Sides) (c : ℕ) (h : JoinRecord s c) where
-  pub many_at : Positions s.left.array s.left.at
-  many_at = h.held.left.held.positions
-
-  pub one_at : Positions s.right.array s.right.at
-  one_at = h.held.right.held.positions
-
   pub many_in : (i : ℕ) → i ≡ many_place c → i + 1 < length s.left.at
   many_in i e = omega (arith, e, h.many)
 
@@ -87,18 +78,3 @@ module _ (s : Sides) (c : ℕ) (h : JoinRecord s c) where
           code_short.source_short,
         );
       }
-
-      module _ (o n : ℕ) (room : LabelRoom (coded_join_labels naming join skip s c) o n) where
-        same_room : LabelRoom (edited join skip naming rec source) o n
-        same_room = rw labels_are at room
-
-        pub code_few : length (edited_tags join skip rec source) ≤ max_tags
-        code_few = same_room.few
-
-        pub code_room : o + length (encode (edited join skip naming rec source)) ≤ n
-        code_room = same_room.room
-
-      pub code_put : (d : List ℕ) (o : ℕ) (d' : List ℕ) (r : ℕ)
-          → Put d o (encode (edited join skip naming rec source)) d' r
-          → Put d o (encode (coded_join_labels naming join skip s c)) d' r
-      code_put d o d' r k = rw labels_are k

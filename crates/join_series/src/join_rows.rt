@@ -13,12 +13,8 @@ fn apply_join(w: Work, many: &[u64], one: &[u64], out: &mut [u64])
     requires one_len { length one.now ≡ length out.old }
     ensures { out.new ≡ worked_row w many.now one.now }
 {
-    let operator = w.operator;
-    if w.left {
-        rows::apply_rows(operator, w.as_bool, many, one, out);
-    } else {
-        rows::apply_rows(operator, w.as_bool, one, many, out);
-    }
+    let (left, right) = if w.left { (many, one) } else { (one, many) };
+    rows::apply_rows(w.operator, w.as_bool, left, right, out);
 }
 
 // Writes the answer row of a code, by the eight words of its marks. Rows are put over one another at the start of a
@@ -47,7 +43,6 @@ pub fn put_join_row(
         apply_join(w, many, side_parts::row(rows[1], p, o), out);
         return;
     }
-    let one = keys[1];
-    overwriting::put_marked(rows[1], marks, o, one.len(), &mut work[..p]);
+    overwriting::put_marked(rows[1], marks, o, keys[1].len(), &mut work[..p]);
     apply_join(w, many, &work[..p], out);
 }

@@ -1,16 +1,12 @@
 -- The loop of `put_chosen`, and `put_kept`: the name, the count and the tags, one behind the other. Assumes nothing.
-use Prim.Native.Nat.{ℕ, ◌≤◌, ◌+◌, ◌-◌}
+use Prim.Native.Nat.{ℕ, ◌≤◌, ◌+◌}
 use mathlib.Core.Path.{◌≡◌, refl}
 use mathlib.Core.List.{List, [], ◌∷◌, ◌++◌}
 use native.Mathlib.Omega.{arith}
-use lib.ListN.{length, take, drop}
+use lib.ListN.{length}
 use Rattle.model.specs.Labels.{Tag, Labels}
 use Rattle.model.specs.Record.{encode_field, encode_tags, encode}
-use Rattle.record_tags.specs.Lenient.{tags_up_to, labels_of}
-use Rattle.record_tags.specs.Cursors.{encode_tag_lem, NextAt}
-use Rattle.record_tags.specs.declared.Next.{Next}
-use Rattle.record_tags.specs.declared.Next.TheVariants as N
-use Rattle.record_tags.proofs.Cursors.{next_stands, next_tags, next_ended}
+use Rattle.record_tags.specs.Cursors.{encode_tag, encode_tag_lem}
 use Rattle.writing.specs.Written.{Put}
 use Rattle.writing.proofs.Written.{Rest, rest_start, rest_room, rest_put, rest_last, rest_done}
 
@@ -18,33 +14,24 @@ no_tags_lem : encode_tags [] ≡ []
 unfolding encode_tags
 no_tags_lem = refl
 
--- a walk with the choice f that writes what it chooses: what is left to write is what is left to choose
-pub record PutLeft (f : List Tag → List Tag) (s : List ℕ) (n p : ℕ) (d₀ : List ℕ) (at : ℕ) (all d : List ℕ) (o : ℕ) : Type 0 where
-  pub rest : Rest d₀ at all d o (encode_tags (f (tags_up_to n (drop p s))))
+-- a walk that writes tags: what is left to write is what is left of them
+pub put_start : (all ts : List Tag) (d : List ℕ) (at : ℕ) → ts ≡ all → at + length (encode_tags all) ≤ length d
+    → Rest d at (encode_tags all) d at (encode_tags ts)
+put_start all ts d at h room = rw h (rest_start d at (encode_tags all) room)
 
-pub put_start : (f : List Tag → List Tag) (s : List ℕ) (n p : ℕ) (d : List ℕ) (at : ℕ)
-    → tags_up_to n (drop p s) ≡ (labels_of s).tags → at + length (encode_tags (f (labels_of s).tags)) ≤ length d
-    → PutLeft f s n p d at (encode_tags (f (labels_of s).tags)) d at
-put_start f s n p d at h room =
-    record { rest = rw h (rest_start d at (encode_tags (f (labels_of s).tags)) room) }
+module _ (d₀ : List ℕ) (at : ℕ) (all d : List ℕ) (o : ℕ) (left : List Tag) (inv : Rest d₀ at all d o (encode_tags left)) where
+  pub put_ended : left ≡ [] → Put d₀ at all d o
+  put_ended h = rest_done d₀ at all d o (rw (h, no_tags_lem) at inv)
 
-module _ (f : List Tag → List Tag) (s : List ℕ) (n p : ℕ) (d₀ : List ℕ) (at : ℕ) (all d : List ℕ) (o : ℕ)
-    (inv : PutLeft f s n p d₀ at all d o) (x : Next) (hx : NextAt f s n p x) where
-  pub put_ended : x ≡ N.End → Put d₀ at all d o
-  put_ended ex = rest_done d₀ at all d o (rw (next_ended f s n p x hx ex, no_tags_lem) at inv.rest)
+  module _ (t : Tag) (rest : List Tag) (h : left ≡ t ∷ rest) (x : List ℕ) (hx : x ≡ encode_tag t) where
+    one_left : Rest d₀ at all d o (x ++ encode_tags rest)
+    one_left = rw hx (rw (h, encode_tag_lem) at inv)
 
-  module _ (b a e z m : ℕ) (ex : x ≡ N.Tag b a e z m) where
-    left : Rest d₀ at all d o (take (z - b) (drop b s) ++ encode_tags (f (tags_up_to m (drop z s))))
-    left =
-        rw (next_stands f s n p x hx b a e z m ex).bytes
-        (rw (next_tags f s n p x hx b a e z m ex, encode_tag_lem) at inv.rest)
+    pub one_room : o + length x ≤ length d
+    one_room = rest_room d₀ at all d o x (encode_tags rest) one_left
 
-    pub one_room : o + length (take (z - b) (drop b s)) ≤ length d
-    one_room = rest_room d₀ at all d o (take (z - b) (drop b s)) (encode_tags (f (tags_up_to m (drop z s)))) left
-
-    pub put_one_tag : (d' : List ℕ) (r : ℕ) → Put d o (take (z - b) (drop b s)) d' r → PutLeft f s m z d₀ at all d' r
-    put_one_tag d' r hp =
-        record { rest = rest_put d₀ at all d o (take (z - b) (drop b s)) (encode_tags (f (tags_up_to m (drop z s)))) d' r left hp }
+    pub put_one_tag : (d' : List ℕ) (r : ℕ) → Put d o x d' r → Rest d₀ at all d' r (encode_tags rest)
+    put_one_tag d' r hp = rest_put d₀ at all d o x (encode_tags rest) d' r one_left hp
 
 -- a record is its name, its count and its tags
 module _ (l : Labels) (k : ℕ) (hk : k ≡ length l.tags) where

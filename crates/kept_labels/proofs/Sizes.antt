@@ -1,13 +1,13 @@
 -- How many tags a record has and how long it is, against the bytes that it was read from. Assumes nothing.
-use Prim.Native.Nat.{ℕ, zero, suc, ◌≤◌, ◌<◌, ◌+◌, ◌-◌, ◌^◌}
-use mathlib.Core.Path.{◌≡◌, refl, sym, ap, ◌∙◌}
+use Prim.Native.Nat.{ℕ, ◌≤◌, ◌<◌, ◌+◌, ◌-◌, ◌^◌}
+use mathlib.Core.Path.{◌≡◌, refl, ap, ◌∙◌}
 use mathlib.Core.List.{List, [], ◌∷◌, ◌++◌}
 use mathlib.Core.Bool.{Bool, true, false, cond}
 use native.Mathlib.Omega.{arith}
 use mir.Syntax.{w8, w64}
 use mir.Val.{Fits}
-use lib.ListN.{length, get_or, drop, length-append, length-drop}
-use lib.Seq.{length-take-le, get_or-append-add}
+use lib.ListN.{length, get_or, length-append}
+use lib.Seq.{get_or-append-add}
 use Rattle.model.specs.Lists.{cases}
 use Rattle.model.specs.Labels.{Tag, Labels}
 use Rattle.model.specs.Record.{Field, short, field, read_field, on_field, encode_field, encode_tags, encode}
@@ -15,15 +15,10 @@ use Rattle.model.specs.Edits.{Names}
 use Rattle.model.specs.Query.{Matching, key_of}
 use Rattle.model.proofs.Laws.Record.{field_read}
 use Rattle.record_tags.specs.Lenient.{tags_up_to, tags_counted, labels_of}
-use Rattle.record_tags.specs.Cursors.{encode_tag, encode_tag_lem, tag_at, Standing, NextAt, Sieve}
+use Rattle.record_tags.specs.Cursors.{encode_tag, Sieve}
 use Rattle.chosen_tags.specs.Keys.{is_chosen, key_sieve}
-use Rattle.record_tags.specs.declared.Next.{Next}
-use Rattle.record_tags.specs.declared.Next.TheVariants as N
-use Rattle.record_tags.proofs.Cursors.{next_stands, next_tags, next_ended}
+use Rattle.record_tags.proofs.Sizes.{length-tags, tags_few, tags_short, no_bytes}
 use Rattle.kept_labels.specs.Edited.{kept, TagsSized, Sized}
-
-pub length-tags : (t : Tag) (ts : List Tag) → length (encode_tags (t ∷ ts)) ≡ length (encode_tag t) + length (encode_tags ts)
-length-tags t ts = ap length (encode_tag_lem t ts) ∙ length-append (encode_tag t) (encode_tags ts)
 
 pub length-labels : (l : Labels) → length (encode l) ≡ length (encode_field l.name) + (1 + length (encode_tags l.tags))
 unfolding encode
@@ -44,54 +39,6 @@ module _ (test : List ℕ → Bool) (f : List Tag → List Tag) (v : Sieve test 
       (cases (test t.key)
       (λ e. rw e (omega (arith, length-tags t (f ts), length-tags t ts, chosen_short ts)))
       (λ e. rw e (omega (arith, length-tags t ts, chosen_short ts))))
-
--- tags that were read have no more bytes than they were read from
-pub tags_few : (n : ℕ) (s : List ℕ) → length (tags_up_to n s) ≤ n
-unfolding tags_up_to
-tags_few zero s = omega arith
-tags_few (suc n) s = go (tags_few n) (read_field s)
-  where
-    valued : ((s : List ℕ) → length (tags_up_to n s) ≤ n) → (k : List ℕ) (g : Field)
-        → length (on_field g [] (λ v s₂. record { key = k; value = v } ∷ tags_up_to n s₂)) ≤ suc n
-    valued ih k short = omega arith
-    valued ih k (field v s₂) = omega (arith, ih s₂)
-
-    go : ((s : List ℕ) → length (tags_up_to n s) ≤ n) → (g : Field)
-        → length (on_field g [] (λ k s₁. on_field (read_field s₁) [] (λ v s₂. record { key = k; value = v } ∷ tags_up_to n s₂))) ≤ suc n
-    go ih short = omega arith
-    go ih (field k s₁) = valued ih k (read_field s₁)
-
-pub no_bytes : length (encode_tags []) ≡ 0
-unfolding encode_tags
-no_bytes = refl
-
-pub tags_short : (n : ℕ) (s : List ℕ) → length (encode_tags (tags_up_to n s)) ≤ length s
-unfolding tags_up_to
-tags_short zero s = omega (arith, no_bytes)
-tags_short (suc n) s = go (tags_short n) (read_field s) refl
-  where
-    Fewer : Type 0
-    Fewer = (s : List ℕ) → length (encode_tags (tags_up_to n s)) ≤ length s
-
-    valued : Fewer → (k s₁ : List ℕ) → s ≡ encode_field k ++ s₁ → (g : Field) → read_field s₁ ≡ g
-        → length (encode_tags (on_field g [] (λ v s₂. record { key = k; value = v } ∷ tags_up_to n s₂))) ≤ length s
-    valued ih k s₁ hk short h = omega (arith, no_bytes)
-    valued ih k s₁ hk (field v s₂) h =
-        omega (
-          arith,
-          length-tags (record { key = k; value = v }) (tags_up_to n s₂),
-          length-append (encode_field k) (encode_field v),
-          ap length hk,
-          length-append (encode_field k) s₁,
-          ap length (field_read s₁ v s₂ h),
-          length-append (encode_field v) s₂,
-          ih s₂,
-        )
-
-    go : Fewer → (g : Field) → read_field s ≡ g
-        → length (encode_tags (on_field g [] (λ k s₁. on_field (read_field s₁) [] (λ v s₂. record { key = k; value = v } ∷ tags_up_to n s₂)))) ≤ length s
-    go ih short h = omega (arith, no_bytes)
-    go ih (field k s₁) h = valued ih k s₁ (field_read s k s₁ h) (read_field s₁) refl
 
 -- a record's labels, written again, are hardly longer than what they were read from
 pub labels_short : (s : List ℕ) → length (encode (labels_of s)) ≤ length s + 2
@@ -159,58 +106,51 @@ kept_short m ns keep_name l =
     name_short true x = omega arith
     name_short false x = omega arith
 
--- the tags and bytes counted by a walk with the choice f, and those left
-pub record TallyLeft (f : List Tag → List Tag) (s : List ℕ) (n p tags bytes : ℕ) (all : List Tag) : Type 0 where
-  pub tags_asked : length all ≡ tags + length (f (tags_up_to n (drop p s)))
-  pub bytes_asked : length (encode_tags all) ≡ bytes + length (encode_tags (f (tags_up_to n (drop p s))))
-  pub few : length all ≤ 255
-  pub few_bytes : length (encode_tags all) ≤ length s
+-- a record's tags have no more bytes than the record
+pub tags_within : (s : List ℕ) → length (encode_tags (labels_of s).tags) ≤ length s
+tags_within s = omega (arith, labels_short s, length-labels (labels_of s))
 
-pub tally_start : (test : List ℕ → Bool) (f : List Tag → List Tag) → Sieve test f → (s : List ℕ) (n p : ℕ)
-    → tags_up_to n (drop p s) ≡ (labels_of s).tags → n ≤ 255 → TallyLeft f s n p 0 0 (f (labels_of s).tags)
-tally_start test f v s n p h few =
-    rw (← h) (record {
-      tags_asked = omega arith;
-      bytes_asked = omega arith;
-      few = omega (arith, chosen_few test f v (tags_up_to n (drop p s)), tags_few n (drop p s));
-      few_bytes = omega (arith, chosen_short test f v (tags_up_to n (drop p s)), tags_short n (drop p s), length-drop p s);
-    })
+-- no more tags than bytes
+pub tags_counted_by : (ts : List Tag) → length ts ≤ length (encode_tags ts)
+tags_counted_by [] = omega arith
+tags_counted_by (t ∷ ts) = omega (arith, length-tags t ts, length-append (encode_field t.key) (encode_field t.value), tags_counted_by ts)
 
-module _ (f : List Tag → List Tag) (s : List ℕ) (n p tags bytes : ℕ) (all : List Tag) (inv : TallyLeft f s n p tags bytes all)
-    (x : Next) (hx : NextAt f s n p x) where
-  pub tally_done : x ≡ N.End → TagsSized all (record { tags = tags; bytes = bytes })
-  tally_done ex =
-      let none : f (tags_up_to n (drop p s)) ≡ [] = next_ended f s n p x hx ex in
+-- the tags and bytes counted by a walk, of all, and those left
+pub record TallyLeft (all left : List Tag) (tags bytes size : ℕ) : Type 0 where
+  pub tags_asked : length all ≡ tags + length left
+  pub bytes_asked : length (encode_tags all) ≡ bytes + length (encode_tags left)
+  pub few_bytes : length (encode_tags all) ≤ size
+
+pub tally_start : (all ts : List Tag) (size : ℕ) → ts ≡ all → length (encode_tags all) ≤ size → TallyLeft all ts 0 0 size
+tally_start all ts size h few =
+    rw h (record { tags_asked = omega arith; bytes_asked = omega arith; few_bytes = few })
+
+-- the tags of a record's key have no more bytes than the record
+pub key_within : (m : Matching) (ns : Names) (s : List ℕ) → length (encode_tags (key_of m ns (labels_of s).tags)) ≤ length s
+key_within m ns s =
+    omega (arith, chosen_short (is_chosen m ns) (key_of m ns) (key_sieve m ns) (labels_of s).tags, tags_within s)
+
+module _ (all left : List Tag) (tags bytes size : ℕ) (inv : TallyLeft all left tags bytes size) where
+  pub tally_done : left ≡ [] → TagsSized all (record { tags = tags; bytes = bytes })
+  tally_done none =
       record {
         tags = omega (arith, inv.tags_asked, ap length none);
         bytes = omega (arith, inv.bytes_asked, ap (λ ts. length (encode_tags ts)) none, no_bytes);
       }
 
-  module _ (b a e z m : ℕ) (ex : x ≡ N.Tag b a e z m) where
-    w : Standing s b a e z
-    w = next_stands f s n p x hx b a e z m ex
-
-    span : z - b ≡ length (encode_tag (tag_at s a e z))
-    span =
-        sym (length-take-le (z - b) (drop b s) (omega (arith, length-drop b s, w.within)))
-        ∙ ap length w.bytes
-
-    next : f (tags_up_to n (drop p s)) ≡ tag_at s a e z ∷ f (tags_up_to m (drop z s))
-    next = next_tags f s n p x hx b a e z m ex
-
-    pub tally_one : TallyLeft f s m z (tags + 1) (bytes + (z - b)) all
+  module _ (t : Tag) (rest : List Tag) (h : left ≡ t ∷ rest) (x : List ℕ) (hx : x ≡ encode_tag t) where
+    pub tally_one : TallyLeft all rest (tags + 1) (bytes + length x) size
     tally_one =
         record {
-          tags_asked = omega (arith, inv.tags_asked, ap length next);
-          bytes_asked = omega (arith, inv.bytes_asked, ap (λ ts. length (encode_tags ts)) next, length-tags (tag_at s a e z) (f (tags_up_to m (drop z s))), span);
-          few = inv.few;
+          tags_asked = omega (arith, inv.tags_asked, ap length h);
+          bytes_asked = omega (arith, inv.bytes_asked, ap (λ ts. length (encode_tags ts)) h, length-tags t rest, ap length hx);
           few_bytes = inv.few_bytes;
         }
 
-    pub tally_tags_fit : Fits w64 (tags + 1)
-    tally_tags_fit = omega (arith, tally_one.tags_asked, inv.few)
+    pub tally_tags_fit : size < 2 ^ 64 → Fits w64 (tags + 1)
+    tally_tags_fit g = omega (arith, tally_one.tags_asked, tags_counted_by all, inv.few_bytes)
 
-    pub tally_bytes_fit : length s < 2 ^ 64 → Fits w64 (bytes + (z - b))
+    pub tally_bytes_fit : size < 2 ^ 64 → Fits w64 (bytes + length x)
     tally_bytes_fit g = omega (arith, tally_one.bytes_asked, inv.few_bytes)
 
 -- `kept_size`: the name's bytes n, the count, and the tags' bytes k

@@ -11,7 +11,6 @@ ghost use Rattle.writing.specs.Written.{Put};
 ghost use Rattle.kept_labels.specs.Edited.{kept, TagsSized, Sized};
 
 use labels::Matching;
-use record_tags::Next;
 
 // How many tags there are, and their bytes.
 #[derive(Clone, Copy)]
@@ -24,27 +23,13 @@ pub struct Size {
 fn chosen_size(rec: &[u8], matching: Matching, list: &[u8]) -> Size
     ensures { TagsSized (record_key (matching_of matching) list.now rec.now) result }
 {
-    let t = record_tags::tags_of(rec);
-    let mut p = t.at;
-    let mut n = t.count;
     let mut tags: usize = 0;
     let mut bytes: usize = 0;
-    loop {
-        let Next::Tag {
-            start,
-            key: _,
-            key_end: _,
-            end,
-            left,
-        } = chosen_tags::next_chosen(rec, p, n, matching, list)
-        else {
-            return Size { tags, bytes };
-        };
+    for tag in chosen_tags::chosen_of(rec, matching, list) {
         tags += 1;
-        bytes += end - start;
-        p = end;
-        n = left;
+        bytes += tag.bytes.len();
     }
+    Size { tags, bytes }
 }
 
 // Writes the tags of a record's key.
@@ -53,25 +38,11 @@ fn put_chosen(out: &mut [u8], at: usize, rec: &[u8], matching: Matching, list: &
     ensures { Put out.old at (encode_tags (record_key (matching_of matching) list.now rec.now))
         out.new result }
 {
-    let t = record_tags::tags_of(rec);
-    let mut p = t.at;
-    let mut n = t.count;
     let mut o = at;
-    loop {
-        let Next::Tag {
-            start,
-            key: _,
-            key_end: _,
-            end,
-            left,
-        } = chosen_tags::next_chosen(rec, p, n, matching, list)
-        else {
-            return o;
-        };
-        o = writing::put_bytes(out, o, &rec[start..end]);
-        p = end;
-        n = left;
+    for tag in chosen_tags::chosen_of(rec, matching, list) {
+        o = writing::put_bytes(out, o, tag.bytes);
     }
+    o
 }
 
 // A record with the tags of its key, and its name or none.

@@ -1,12 +1,12 @@
 -- The codes of keys put one behind another: by a side, and on both sides. Assumes nothing.
 use Prim.Native.Nat.{ℕ, ◌+◌, ◌≤◌, ◌<◌}
-use mathlib.Core.Path.{◌≡◌, refl, sym, ap, ◌∙◌}
+use mathlib.Core.Path.{◌≡◌, sym, ap, ◌∙◌}
 use mathlib.Core.List.{List, [], ◌∷◌, ◌++◌, map}
 use native.Mathlib.Nat.{zero-add}
 use native.Mathlib.Numerals.{add-one}
 use native.Mathlib.Omega.{arith}
 use lib.ListN.{length, get_or, take, drop, set, length-map, get_or-append}
-use lib.Seq.{sets, sets-eq, length-sets, take-suc, take_all, drop_at, length-take-le, get_or-append-add, get_or-drop}
+use lib.Seq.{sets, sets-eq, length-sets, take-suc, take_all, length-take-le, get_or-append-add, get_or-drop}
 use Rattle.model.proofs.Laws.Lists.{map_at, sets_append}
 use Rattle.end_codes.specs.Codes.{codes, both_code}
 use Rattle.key_ends.specs.Ends.{ends_code, pair_code, SideEnds, SideEndsPut, PairEndsPut, code_small}
@@ -22,15 +22,9 @@ pub record Putting (f : ℕ → ℕ) (asked ends₀ : List ℕ) (i : ℕ) (ends 
   pub done : ends ≡ sets ends₀ 0 (take i (map f asked))
 
 module _ (f : ℕ → ℕ) (asked ends₀ : List ℕ) where
-  pub putting_starts : length asked ≤ length ends₀ → Putting f asked ends₀ 0 ends₀
-  putting_starts h = record { within = omega arith; room = h; done = refl }
-
   module _ (i : ℕ) (ends : List ℕ) (p : Putting f asked ends₀ i ends) where
     pub putting_long : length ends ≡ length ends₀
     putting_long = ap length p.done ∙ length-sets ends₀ 0 (take i (map f asked))
-
-    pub putting_room : i < length asked → i < length ends
-    putting_room h = omega (arith, putting_long, p.room)
 
     front_long : length (take i (map f asked)) ≡ i
     front_long = length-take-le i (map f asked) (omega (arith, p.within, length-map asked f))
@@ -87,9 +81,6 @@ module _ (keys asked ends₀ : List ℕ) (i : ℕ) (ends : List ℕ) (p : Puttin
 
 -- `join_ends`: the left places are put together with the right ones
 
-pub joining_starts : (lkeys rkeys ends : List ℕ) → SideEnds lkeys lkeys ends → Putting (pair_code lkeys rkeys) lkeys ends 0 ends
-joining_starts lkeys rkeys ends s = putting_starts (pair_code lkeys rkeys) lkeys ends s.room
-
 module _ (lkeys rkeys ends₀ : List ℕ) (s : SideEnds lkeys lkeys ends₀) (i : ℕ) (ends : List ℕ) (p : Putting (pair_code lkeys rkeys) lkeys ends₀ i ends) where
   module _ (h : i < length lkeys) where
     left_here : get_or ends i 0 ≡ ends_code lkeys (get_or lkeys i 0)
@@ -99,9 +90,6 @@ module _ (lkeys rkeys ends₀ : List ℕ) (s : SideEnds lkeys lkeys ends₀) (i 
     left_small few = omega (arith, left_here, code_small lkeys few (get_or lkeys i 0))
 
     module _ (right : List ℕ) (t : SideEnds rkeys lkeys right) where
-      pub right_room : i < length right
-      right_room = omega (arith, t.room)
-
       pub right_small : length rkeys ≤ 512 → get_or right i 0 < codes
       right_small few = omega (arith, t.each i h, code_small rkeys few (get_or lkeys i 0))
 
@@ -118,16 +106,3 @@ module _ (lkeys rkeys ends₀ : List ℕ) (s : SideEnds lkeys lkeys ends₀) (i 
       each = putting_each (pair_code lkeys rkeys) lkeys ends₀ i ends p h;
     };
   }
-
--- `pair_ends`: the tail behind the left places is as it was before either pass
-pub pair_put : (lkeys rkeys ends₀ ends₁ ends₂ : List ℕ) → SideEndsPut lkeys lkeys ends₀ ends₁
-    → PairEndsPut lkeys rkeys ends₁ ends₂ → PairEndsPut lkeys rkeys ends₀ ends₂
-pair_put lkeys rkeys ends₀ ends₁ ends₂ s p = record {
-  content = p.content ∙ ap (λ x. map (pair_code lkeys rkeys) lkeys ++ x) tail;
-  known = p.known;
-}
-  where
-    tail : drop (length lkeys) ends₁ ≡ drop (length lkeys) ends₀
-    tail =
-        ap (drop (length lkeys)) s.content
-        ∙ drop_at (map (ends_code lkeys) lkeys) (drop (length lkeys) ends₀) (length lkeys) (length-map lkeys (ends_code lkeys))

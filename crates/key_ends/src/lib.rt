@@ -1,4 +1,4 @@
-// The first and the last places of keys on two sides, found in linear time by tables of key numbers.
+// The first and the last places of keys on two sides, found in linear time by a table of key numbers.
 #![tactic(auto)]
 
 ghost use Rattle.std.specs.Prelude.{◌≡◌, ◌+◌, ◌*◌, ◌≤◌, ◌<◌, length};
@@ -9,97 +9,70 @@ ghost use Rattle.key_ends.specs.Tables.{noted, Table};
 // The key number of a series that takes no part.
 pub const DROPPED: usize = 1024;
 
-// Notes a place in the table at a key's number; a number that the table has no room for is not noted.
-fn note(table: &mut [usize], k: usize, i: usize)
+// The first and the last place of a key; both are the number of places where it has none.
+#[derive(Clone, Copy)]
+struct Ends {
+    first: usize,
+    last: usize,
+}
+
+// Notes a place, behind those noted before, at a key's number; a number that the table has no room for is not noted.
+fn note(table: &mut [Ends], k: usize, i: usize)
     ensures { table.new ≡ noted table.old k i }
 {
+    // By its index: of what a table is after `get_mut` no clause speaks.
     if k < table.len() {
-        table[k] = i;
+        let first = table[k].first.min(i);
+        table[k] = Ends { first, last: i };
     }
 }
 
-// The first place of each number, in a table that says that there is none.
-fn note_firsts(keys: &[usize], table: &mut [usize])
-    requires { Table (λ k. length keys.now) table.old }
-    ensures { Table (first_of keys.now) table.new }
+// The first and the last place of each number, in a table that says that there is none.
+fn note_ends(keys: &[usize], table: &mut [Ends])
+    requires { Table (λ k. length keys.now) (λ k. length keys.now) table.old }
+    ensures { Table (first_of keys.now) (last_of keys.now) table.new }
 {
-    let mut i = keys.len();
-    while 0 < i {
-        i -= 1;
-        note(table, keys[i], i);
+    for (i, k) in keys.iter().enumerate() {
+        note(table, *k, i);
     }
 }
 
-// The last place of each number, in a table that says that there is none.
-fn note_lasts(keys: &[usize], table: &mut [usize])
-    requires { Table (λ k. length keys.now) table.old }
-    ensures { Table (last_of keys.now) table.new }
-{
-    let mut i: usize = 0;
-    while i < keys.len() {
-        note(table, keys[i], i);
-        i += 1;
-    }
-}
-
-// The first place of a key, from the table where it has room for the key's number.
-fn first_at(keys: &[usize], table: &[usize], k: usize) -> usize
-    requires { Table (first_of keys.now) table.now }
-    ensures { result ≡ first_of keys.now k }
-{
-    if k < table.len() {
-        return table[k];
-    }
-    key_places::first_of(keys, k)
-}
-
-// The last place of a key, from the table where it has room for the key's number.
-fn last_at(keys: &[usize], table: &[usize], k: usize) -> usize
-    requires { Table (last_of keys.now) table.now }
-    ensures { result ≡ last_of keys.now k }
-{
-    if k < table.len() {
-        return table[k];
-    }
-    key_places::last_of(keys, k)
-}
-
-// Both places of a key, as one number.
-fn ends_at(keys: &[usize], firsts: &[usize], lasts: &[usize], k: usize) -> usize
+// Both places of a key, as one number; from the table where it has room for the key's number.
+fn ends_at(keys: &[usize], table: &[Ends], k: usize) -> usize
     requires keys_len_bound { length keys.now ≤ 512 }
-    requires table { Table (first_of keys.now) firsts.now }
-    requires table_2 { Table (last_of keys.now) lasts.now }
+    requires table { Table (first_of keys.now) (last_of keys.now) table.now }
     ensures { result ≡ ends_code keys.now k }
 {
-    end_codes::side_code(first_at(keys, firsts, k), last_at(keys, lasts, k))
+    match table.get(k) {
+        Some(ends) => end_codes::side_code(ends.first, ends.last),
+        None => end_codes::side_code(key_places::first_of(keys, k), key_places::last_of(keys, k)),
+    }
 }
 
 // The places of each key that is asked for.
-fn put_ends(keys: &[usize], firsts: &[usize], lasts: &[usize], asked: &[usize], ends: &mut [usize])
+fn put_ends(keys: &[usize], table: &[Ends], asked: &[usize], ends: &mut [usize])
     requires keys_len_bound { length keys.now ≤ 512 }
-    requires table { Table (first_of keys.now) firsts.now }
-    requires table_2 { Table (last_of keys.now) lasts.now }
+    requires table { Table (first_of keys.now) (last_of keys.now) table.now }
     requires asked_in_bounds { length asked.now ≤ length ends.old }
     ensures { SideEndsPut keys.now asked.now ends.old ends.new }
 {
-    let mut i: usize = 0;
-    while i < asked.len() {
-        ends[i] = ends_at(keys, firsts, lasts, asked[i]);
-        i += 1;
+    for (i, k) in asked.iter().enumerate() {
+        ends[i] = ends_at(keys, table, *k);
     }
 }
 
-// The places on a side of each key that is asked for, by tables of its key numbers.
+// The places on a side of each key that is asked for, by a table of its key numbers.
 pub fn side_ends(keys: &[usize], asked: &[usize], ends: &mut [usize])
     requires keys_len_bound { length keys.now ≤ 512 }
     requires asked_in_bounds { length asked.now ≤ length ends.old }
     ensures { SideEndsPut keys.now asked.now ends.old ends.new }
 {
-    let mut firsts = [keys.len(); 1024];
-    let mut lasts = [keys.len(); 1024];
-    note_firsts(keys, &mut firsts);
-    note_lasts(keys, &mut lasts);
-    put_ends(keys, &firsts, &lasts, asked, ends);
+    let mut table = [Ends {
+        first: keys.len(),
+        last: keys.len(),
+    }; 1024];
+    note_ends(keys, &mut table);
+    put_ends(keys, &table, asked, ends);
 }
 
 // Left places and right places put together.
@@ -110,10 +83,8 @@ fn join_ends(lkeys: &[usize], rkeys: &[usize], right: &[usize], ends: &mut [usiz
     requires side_ends_2 { SideEnds lkeys.now lkeys.now ends.old }
     ensures { PairEndsPut lkeys.now rkeys.now ends.old ends.new }
 {
-    let mut i: usize = 0;
-    while i < lkeys.len() {
+    for i in 0..lkeys.len() {
         ends[i] = end_codes::both_code(ends[i], right[i]);
-        i += 1;
     }
 }
 

@@ -1,12 +1,10 @@
 -- `number_noted` and `number_left`: the keys numbered so far are those of the whole. Assumes nothing.
-use Prim.Native.Nat.{ℕ, suc, ◌+◌, ◌*◌, ◌^◌, ◌≤◌, ◌<◌}
-use mathlib.Core.Path.{◌≡◌, refl, sym, ap, ◌∙◌}
+use Prim.Native.Nat.{ℕ, suc, ◌+◌, ◌≤◌, ◌<◌}
+use mathlib.Core.Path.{◌≡◌, sym, ap, ◌∙◌}
 use mathlib.Core.Bool.{Bool}
-use mathlib.Core.List.{List, [], ◌∷◌, ◌++◌, append_assoc, append-nil}
+use mathlib.Core.List.{List, [], ◌∷◌, ◌++◌, append_assoc}
 use native.Mathlib.Numerals.{add-one}
 use native.Mathlib.Omega.{arith}
-use mir.Syntax.{w64}
-use mir.Val.{Fits}
 use lib.ListN.{length, get_or, take, set, length-set, length-append}
 use lib.Seq.{take-suc, take-suc-set, take_all, length-take-le}
 use Rattle.model.specs.Labels.{Labels}
@@ -19,79 +17,40 @@ use Rattle.side_parts.specs.Sides.{record_at, labels_in, Positions}
 use Rattle.side_parts.specs.SideLaws.{labels_at, labels_count, labels_first, positions_first}
 use Rattle.key_numbers.specs.key_lookup.Keys.{first_place, numbers, key_hash, key_hashes, Hashed, Numbered}
 use Rattle.key_numbers.specs.key_lookup.KeyLaws.{place_so_far}
-use Rattle.key_numbers.specs.key_lookup.Buckets.{buckets, noted, Noted}
-use Rattle.key_numbers.proofs.key_lookup.Noting.{noted_size, noting}
+use Rattle.key_numbers.specs.key_lookup.Buckets.{noted, Noted}
+use Rattle.key_numbers.proofs.key_lookup.Noting.{noting}
 
 -- i keys are numbered
 pub record Numbering (named : Bool) (m : Matching) (list : List ℕ) (lefts : List Labels) (left_hashes array at : List ℕ)
-    (hashes₀ keys₀ table₀ hashes keys table : List ℕ) (i : ℕ) : Type 0 where
+    (keys₀ hashes keys table : List ℕ) (i : ℕ) : Type 0 where
   pub positions : Positions array at
   pub count : length at ≡ length keys + 1
   pub long : length hashes ≡ length keys
   pub within : i ≤ length keys
-  pub same_hashes : length hashes ≡ length hashes₀
   pub same_keys_lem : length keys ≡ length keys₀
-  pub same_table : length table ≡ length table₀
-  pub few_hashes : length left_hashes * 8 < 2 ^ 63
-  pub few_keys : length keys * 8 < 2 ^ 63
   pub alike : take i hashes ≡ key_hashes named m (names_of list) (take i (labels_in array at))
   pub numbered : take i keys ≡ numbers named m (names_of list) (lefts ++ labels_in array at) (take i (labels_in array at))
   pub noted : Noted table (left_hashes ++ take i hashes)
 
 module _ (named : Bool) (m : Matching) (list : List ℕ) (lefts : List Labels)
-    (left_hashes array at hashes₀ keys₀ table₀ : List ℕ) where
-  pub number_starts : Noted table₀ left_hashes → Positions array at → length at ≡ length keys₀ + 1
-      → length hashes₀ ≡ length keys₀ → length left_hashes * 8 < 2 ^ 63 → length keys₀ * 8 < 2 ^ 63
-      → Numbering named m list lefts left_hashes array at hashes₀ keys₀ table₀ hashes₀ keys₀ table₀ 0
-  number_starts t h e f l k = record {
-    positions = h;
-    count = e;
-    long = f;
-    within = omega arith;
-    same_hashes = refl;
-    same_keys_lem = refl;
-    same_table = refl;
-    few_hashes = l;
-    few_keys = k;
-    alike = refl;
-    numbered = refl;
-    noted = rw (append-nil left_hashes) t;
-  }
-
+    (left_hashes array at keys₀ : List ℕ) where
   module _ (hashes keys table : List ℕ) (i : ℕ)
-      (n : Numbering named m list lefts left_hashes array at hashes₀ keys₀ table₀ hashes keys table i) where
+      (n : Numbering named m list lefts left_hashes array at keys₀ hashes keys table i) where
     labels_long : length (labels_in array at) ≡ length keys
     labels_long = labels_count array at ∙ (omega (arith, n.count))
 
-    pub number_table : Noted table (left_hashes ++ take i hashes)
-    number_table = n.noted
+    module _ (below : i < length keys₀) where
+      h : i < length keys
+      h = omega (arith, n.same_keys_lem)
 
-    pub number_size : length table ≡ buckets
-    number_size = n.noted.size
-
-    module _ (h : i < length keys) where
-      pub number_inside : i + 1 < length at
+      number_inside : i + 1 < length at
       number_inside = omega (arith, n.count)
 
-      pub number_positions : Positions array at
-      number_positions = n.positions
-
-      pub number_cut : i + 1 ≡ length (take (i + 1) at)
+      number_cut : i + 1 ≡ length (take (i + 1) at)
       number_cut = sym (length-take-le (i + 1) at (omega (arith, n.count)))
 
-      pub number_hashes : i ≡ length (take i hashes)
+      number_hashes : i ≡ length (take i hashes)
       number_hashes = sym (length-take-le i hashes (omega (arith, n.long)))
-
-      -- numbers that the code makes fit
-
-      pub number_scaled : Fits w64 (i * 8)
-      number_scaled = omega (arith, n.few_keys)
-
-      pub number_place : Fits w64 (length left_hashes + i)
-      number_place = omega (arith, n.few_hashes, n.few_keys)
-
-      pub number_next : Fits w64 (i + 1)
-      number_next = omega (arith, n.few_keys)
 
       -- the records so far, with their hashes
       pub number_so_far : Hashed named m (names_of list) array (take (i + 1) at) (take i hashes)
@@ -106,8 +65,7 @@ module _ (named : Bool) (m : Matching) (list : List ℕ) (lefts : List Labels)
           → (x : ℕ) → x ≡ key_hash named m (names_of list) (labels_of rec)
           → (k : ℕ) → k ≡ first_place named m (names_of list) (lefts ++ labels_in array (take (i + 1) at)) (labels_of rec)
           → (table' : List ℕ) → table' ≡ noted table x (length left_hashes + i)
-          → Numbering named m list lefts left_hashes array at hashes₀ keys₀ table₀
-          (set hashes i x) (set keys i k) table' (i + 1)
+          → Numbering named m list lefts left_hashes array at keys₀ (set hashes i x) (set keys i k) table' (i + 1)
       number_turn rec hr x hx k hk table' ht =
           let ls = labels_in array at in
           let d = labels_of [] in
@@ -129,11 +87,7 @@ module _ (named : Bool) (m : Matching) (list : List ℕ) (lefts : List Labels)
             count = simp length-set n.count;
             long = simp length-set n.long;
             within = simp length-set (omega arith);
-            same_hashes = simp length-set n.same_hashes;
             same_keys_lem = simp length-set n.same_keys_lem;
-            few_hashes = n.few_hashes;
-            few_keys = simp length-set n.few_keys;
-            same_table = ap length ht ∙ noted_size table x (length left_hashes + i) ∙ n.same_table;
             alike = rw (add-one i, take-suc-set hashes i x (omega (arith, n.long)), more, map_append, n.alike, hash);
             numbered = rw (add-one i, take-suc-set keys i k h, more, map_append, n.numbered, number);
             noted =
@@ -141,8 +95,9 @@ module _ (named : Bool) (m : Matching) (list : List ℕ) (lefts : List Labels)
                 (rw so_far at (noting table (left_hashes ++ take i hashes) x n.noted));
           }
 
-    pub number_ends : length keys ≤ i → Numbered named m (names_of list) lefts array at hashes keys
-    number_ends h =
+    pub number_ends : length keys₀ ≤ i → Numbered named m (names_of list) lefts array at hashes keys
+    number_ends above =
+        let h : length keys ≤ i = omega (arith, n.same_keys_lem) in
         let all : take i (labels_in array at) ≡ labels_in array at = take_all i (labels_in array at) (omega (arith, labels_long)) in
         record {
           hashed = record {
@@ -161,12 +116,11 @@ pub no_records : (array at : List ℕ) → labels_in array (take 1 at) ≡ []
 no_records array at = labels_first array at 0
 
 module _ (array at keys : List ℕ) (h : Positions array at) (k : length at ≡ length keys + 1) where
-  pub one_position : 1 ≡ length (take 1 at)
+  one_position : 1 ≡ length (take 1 at)
   one_position = sym (length-take-le 1 at (omega arith))
 
-  pub none_hashed : (named : Bool) (m : Matching) (ns : Names) (none : List ℕ)
-      → Hashed named m ns array (take 1 at) (take 0 none)
-  none_hashed named m ns none = record {
+  pub none_hashed : (named : Bool) (m : Matching) (ns : Names) → Hashed named m ns array (take 1 at) []
+  none_hashed named m ns = record {
     positions = positions_first array at 1 h;
     count = sym one_position;
     alike = sym (ap (key_hashes named m ns) (no_records array at));

@@ -11,53 +11,35 @@ ghost use Rattle.key_places.specs.Two.{are_two, both_two};
 pub fn first_of(keys: &[usize], k: usize) -> usize
     ensures { result ≡ first_of keys.now k }
 {
-    let mut i: usize = 0;
-    while i < keys.len() {
-        if keys[i] == k {
-            return i;
-        }
-        i += 1;
-    }
-    i
+    keys.iter().position(|x| *x == k).unwrap_or(keys.len())
 }
 
 // The last place of a key, or the number of keys.
 pub fn last_of(keys: &[usize], k: usize) -> usize
     ensures { result ≡ last_of keys.now k }
 {
-    let mut j = keys.len();
-    while 0 < j {
-        j -= 1;
-        if keys[j] == k {
-            return j;
-        }
-    }
-    keys.len()
+    keys.iter().rposition(|x| *x == k).unwrap_or(keys.len())
 }
 
 // Whether a key has exactly two places, its first and its last: they differ, with none of it between them.
+#[tactic(auto, unfolding(crate::specs::Two::are_two))]
 pub fn are_two(keys: &[usize], k: usize, first: usize, last: usize) -> bool
     requires { last ≤ length keys.now }
     ensures { result ≡ are_two keys.now k first last }
 {
-    if last <= first {
-        return false;
-    }
-    last - (first + 1) <= first_of(&keys[first + 1..last], k)
+    first < last && last - (first + 1) <= first_of(&keys[first + 1..last], k)
 }
 
 // Whether a code has exactly two series on each side: its ends there, with none of their key between them.
+#[tactic(auto, unfolding(crate::specs::Two::both_two))]
 pub fn both_two(keys: [&[usize]; 2], code: usize) -> bool
     requires code_in_bounds { left_last code < length (lent keys 0) }
     requires code_in_bounds_2 { right_last code < length (lent keys 1) }
     ensures { result ≡ both_two (lent keys.entry 0) (lent keys.entry 1) code }
 {
-    let lkeys = keys[0];
-    let last = end_codes::left_last(code);
-    if are_two(lkeys, lkeys[last], end_codes::left_first(code), last) {
-        let rkeys = keys[1];
-        let last = end_codes::right_last(code);
-        return are_two(rkeys, rkeys[last], end_codes::right_first(code), last);
-    }
-    false
+    let [lkeys, rkeys] = keys;
+    let left = end_codes::left_last(code);
+    let right = end_codes::right_last(code);
+    are_two(lkeys, lkeys[left], end_codes::left_first(code), left)
+        && are_two(rkeys, rkeys[right], end_codes::right_first(code), right)
 }

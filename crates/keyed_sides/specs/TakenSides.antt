@@ -1,5 +1,5 @@
 -- A side of a call once it is taken: its label array, the positions of its records, and its readings. Assumes nothing.
-use Rattle.std.specs.Prelude.{ℕ, zero, suc, ◌+◌, ◌-◌, ◌*◌, ◌≤◌, ◌<◌, ◌≡◌, refl, List, [], ◌∷◌, length, get_or, take, drop}
+use Rattle.std.specs.Prelude.{ℕ, zero, suc, ◌+◌, ◌-◌, ◌≤◌, ◌<◌, ◌≡◌, List, [], ◌∷◌, length, get_or, take, drop, Result, Ok}
 use Rattle.std.proofs.Common.{sym, ap, ◌∙◌, append-nil, arith, Fits, length-drop, take_all}
 use Rattle.std.specs.Int.{w8, w64}
 use Rattle.model.specs.Limits.{max_series, sizes_length}
@@ -11,10 +11,9 @@ use Rattle.model.proofs.Laws.Vector.{taken_is}
 use Rattle.record_tags.specs.Lenient.{labels_of, labels_encoded}
 use Rattle.side_parts.specs.Sides.{record_at, lent_series}
 use Rattle.side_parts.specs.SideLaws.{record_starts}
-use Rattle.side_parts.specs.declared.Shape as Code
 use Rattle.side_parts.specs.Lent.{Held, shape_of}
-use Rattle.timeseries.specs.declared.Taken.{Taken}
-use Rattle.timeseries.specs.declared.Taken.TheVariants as T
+use Rattle.timeseries.specs.declared.Vector as Code
+use Rattle.timeseries.specs.declared.VectorFault.{VectorFault}
 use Rattle.timeseries.specs.Takes.{TakenInto}
 use Rattle.timeseries.specs.TakeLaws.{SideTaken, side_taken, taken_long}
 use Rattle.plan.specs.Laws.Common.{no_series, get_or-labels}
@@ -113,12 +112,18 @@ part_long shape ss = omega arith
 behind_sizes : (s : List ℕ) → take (length s - sizes_length) (drop sizes_length s) ≡ drop sizes_length s
 behind_sizes s = take_all (length s - sizes_length) (drop sizes_length s) (omega (arith, length-drop sizes_length s))
 
-module _ (side : ℕ) (s x before after : List ℕ) (t : Taken) (into : TakenInto s x before t after) (room : length before ≡ max_series + 1)
-    (n : ℕ) (shape : Code.Shape) (e : t ≡ T.Vector n shape) where
-  taken_so : SideTaken side s x after n (shape_of shape)
-  taken_so = side_taken side s x before after room t into n shape e
+module _ (side : ℕ) (s x before after : List ℕ) (t : Result Code.Vector VectorFault) (into : TakenInto s x before t after)
+    (room : length before ≡ max_series + 1) (r : Code.Vector) (e : t ≡ Ok r) where
+  abbrev n : ℕ
+  n = r.series
 
-  pub took : ((j : ℕ) → Fits w8 (get_or s j 0)) → ((j : ℕ) → Fits w64 (get_or x j 0)) → Took side s x after n (shape_of shape)
+  abbrev shape : Shape
+  shape = shape_of r.shape
+
+  taken_so : SideTaken side s x after n shape
+  taken_so = side_taken side s x before after room t into r e
+
+  pub took : ((j : ℕ) → Fits w8 (get_or s j 0)) → ((j : ℕ) → Fits w64 (get_or x j 0)) → Took side s x after n shape
   took bytes words =
       let few : n ≤ max_series = taken_so.few in
       let is = taken_is side s x taken_so.v (bytes_of s bytes) (readings_of_lem x words) taken_so.taken in
@@ -129,6 +134,6 @@ module _ (side : ℕ) (s x before after : List ℕ) (t : Taken) (into : TakenInt
         lent = sym taken_so.entries;
         sizes = rw is.labels (part_long taken_so.v.shape taken_so.v.series);
         grid = rw taken_so.on at is.valid.grid;
-        held = rw (behind_sizes s) (taken_side side s x after n (shape_of shape) taken_so (bytes_of s bytes) (readings_of_lem x words));
-        vector = rw (behind_sizes s) (lent_vector_lem side s x after n (shape_of shape) taken_so);
+        held = rw (behind_sizes s) (taken_side side s x after n shape taken_so (bytes_of s bytes) (readings_of_lem x words));
+        vector = rw (behind_sizes s) (lent_vector_lem side s x after n shape taken_so);
       }

@@ -1,58 +1,31 @@
 // Series with only missing readings taken out: their key number becomes one that no key has.
-ghost use Rattle.std.specs.Prelude.{◌≡◌, ◌+◌, ◌*◌, ◌≤◌, length, get_or, take, drop};
+ghost use Rattle.std.specs.Prelude.{◌≡◌, ◌*◌, length};
 ghost use Rattle.model.specs.Row.{only_missing};
-ghost use Rattle.reading.specs.Gaps.{gap_of};
 ghost use Rattle.keyed_sides.specs.Dropped.{kept_number, dropped_missing};
 
-// How many of two readings from a place on are missing.
-fn two_gaps(row: &[u64], i: usize) -> u64
-    requires { i + 2 ≤ length row.now }
-    ensures { result ≡ gap_of (get_or row.now i 0) + gap_of (get_or row.now (i + 1) 0) }
+// Whether eight readings are all missing, with no branch between them.
+fn eight_missing(eight: &[u64; 8]) -> bool
+    ensures { result ≡ only_missing eight.now }
 {
-    reading::gaps(row[i], row[i + 1])
-}
-
-// Whether eight readings from a place on are all missing: their gaps are summed, with no branch between them.
-fn eight_missing(row: &[u64], i: usize) -> bool
-    requires { i + 8 ≤ length row.now }
-    ensures { result ≡ only_missing (take 8 (drop i row.now)) }
-{
-    let a = two_gaps(row, i);
-    let b = two_gaps(row, i + 2);
-    let c = two_gaps(row, i + 4);
-    let d = two_gaps(row, i + 6);
-    (a + b) + (c + d) == 8
-}
-
-// Whether a row has no reading from a place on.
-fn missing_from(row: &[u64], from: usize) -> bool
-    requires { from ≤ length row.now }
-    ensures { result ≡ only_missing (drop from row.now) }
-{
-    let mut i = from;
-    while i < row.len() {
-        if reading::is_missing(row[i]) {
-            i += 1;
-        } else {
-            return false;
-        }
+    let mut gap = 1;
+    for x in eight {
+        gap &= reading::gap(*x);
     }
-    true
+    gap == 1
 }
 
 // Whether a row has no reading: by eights, then what is left of it.
 fn only_missing(row: &[u64]) -> bool
     ensures { result ≡ only_missing row.now }
 {
-    let mut i: usize = 0;
-    while 8 <= row.len() - i {
-        if eight_missing(row, i) {
-            i += 8;
-        } else {
+    let mut rest = row;
+    while let Some((eight, more)) = rest.split_first_chunk::<8>() {
+        if !eight_missing(eight) {
             return false;
         }
+        rest = more;
     }
-    missing_from(row, i)
+    rest.iter().all(|x| reading::is_missing(*x))
 }
 
 // The number k, or that of a series that takes no part where its row has only missing readings.
@@ -71,9 +44,7 @@ pub(crate) fn drop_missing(rows: &[u64], p: usize, keys: &mut [usize])
     requires { length rows.now ≡ length keys.old * p }
     ensures { keys.new ≡ dropped_missing p rows.now keys.old }
 {
-    let mut i: usize = 0;
-    while i < keys.len() {
-        keys[i] = kept_or_dropped(side_parts::row(rows, p, i), keys[i]);
-        i += 1;
+    for (i, k) in keys.iter_mut().enumerate() {
+        *k = kept_or_dropped(side_parts::row(rows, p, i), *k);
     }
 }

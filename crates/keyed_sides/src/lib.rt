@@ -12,6 +12,7 @@ ghost use Rattle.side_parts.specs.Sides.{labels_in, Positions};
 ghost use Rattle.side_parts.specs.Lent.{lent};
 ghost use Rattle.keyed_sides.specs.Keyed.{drops_missing, kept_keys, BothNumbered};
 
+use key_numbers::{HashedSide, KeyRule};
 use labels::Matching;
 use operator::Operator;
 
@@ -35,29 +36,18 @@ fn number_hashed(
     ensures { BothNumbered (matching_of matching) (names_of names.now) (labels_in (lent labels.entry 0) (lent at.entry 0))
         (labels_in (lent labels.entry 1) (lent at.entry 1)) left_keys.new right_keys.new }
 {
-    key_numbers::number_left(
-        labels[0],
-        at[0],
-        false,
+    let rule = KeyRule {
+        named: false,
         matching,
-        names,
-        left_hashes,
-        left_keys,
-    );
-    let left = labels[0];
-    let left_at = at[0];
-    key_numbers::number_right(
-        left,
-        left_at,
-        left_hashes,
-        labels[1],
-        at[1],
-        false,
-        matching,
-        names,
-        right_hashes,
-        right_keys,
-    );
+        list: names,
+    };
+    key_numbers::number_left(labels[0], at[0], rule, left_hashes, left_keys);
+    let left = HashedSide {
+        array: labels[0],
+        at: at[0],
+        hashes: left_hashes,
+    };
+    key_numbers::number_right(left, labels[1], at[1], rule, right_hashes, right_keys);
 }
 
 // Numbers the keys of both sides by first place, the left ones first.
@@ -107,10 +97,7 @@ pub fn drop_for(
     ensures left_keys_after { left_keys.new ≡ kept_keys (drops_missing (kind_of op)) p (lent rows.entry 0) left_keys.old }
     ensures right_keys_after { right_keys.new ≡ kept_keys (drops_missing (kind_of op)) p (lent rows.entry 1) right_keys.old }
 {
-    if op.is_logical_op() {
-        return;
-    }
-    if op.is_comparison() {
+    if op.is_logical_op() || op.is_comparison() {
         return;
     }
     dropped::drop_missing(rows[0], p, left_keys);

@@ -13,6 +13,8 @@ use kept_labels::Size;
 use labels::Matching;
 use operator::Operator;
 
+// No function over a matching serves both edits: these four are one call each, and would be left as calls that only pass it on.
+
 pub fn remove_tags_on_size(rec: &[u8], list: &[u8]) -> Size
     ensures { Sized (remove_tags_on (names_of list.now) (labels_of rec.now)) result }
 {

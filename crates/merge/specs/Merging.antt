@@ -1,10 +1,10 @@
 -- Merging: what merging alone answers, with the destination afterwards. Assumes nothing.
-use Rattle.std.specs.Prelude.{ℕ, ◌≡◌, cond, List, eqb, leb, length}
+use Rattle.std.specs.Prelude.{ℕ, ◌≡◌, cond, List, eqb, leb, length, Result, Ok, Err}
 use Rattle.std.proofs.Math.Option.{Option, none, some}
 use Rattle.model.specs.Limits.{max_allowance}
 use Rattle.model.specs.Row.{merged}
-use Rattle.merge.specs.declared.Merged.{Merged}
-use Rattle.merge.specs.declared.Merged.TheVariants.{Done, Overlapping, Unequal, BadAllowance}
+use Rattle.merge.specs.declared.MergeError.{MergeError}
+use Rattle.merge.specs.declared.MergeError.TheVariants.{Overlapping, Unequal, BadAllowance}
 
 pub data Merging : Type 0 where
   done : List ℕ → Merging  -- the merged row
@@ -28,13 +28,13 @@ destination overlapping d = d
 destination (refused n) d = d
 
 -- the code's answers, with their numbers; `row` is what the destination holds afterwards
-abbrev pub answered : Merged → List ℕ → Merging
-answered Done row = done row
-answered Overlapping row = overlapping
-answered Unequal row = refused 6
-answered BadAllowance row = refused 13
+abbrev pub answered : Result (Unit {0}) MergeError → List ℕ → Merging
+answered (Ok u) row = done row
+answered (Err Overlapping) row = overlapping
+answered (Err Unequal) row = refused 6
+answered (Err BadAllowance) row = refused 13
 
 -- merging s into d answers r and leaves `row`
-pub record MergedAs (allowance : ℕ) (d s : List ℕ) (r : Merged) (row : List ℕ) : Type 0 where
+pub record MergedAs (allowance : ℕ) (d s : List ℕ) (r : Result (Unit {0}) MergeError) (row : List ℕ) : Type 0 where
   pub answer : answered r row ≡ merged_alone allowance d s
   pub left : row ≡ destination (merged_alone allowance d s) d

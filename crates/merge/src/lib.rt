@@ -8,9 +8,9 @@ ghost use Rattle.merge.specs.Merging.{MergedAs};
 
 use operator::Operator;
 
-#[derive(Clone, Copy)]
-pub enum Merged {
-    Done,
+// Why a row is not merged.
+#[derive(Clone, Copy, Debug, PartialEq, Eq)]
+pub enum MergeError {
     Overlapping,
     Unequal,
     BadAllowance,
@@ -28,10 +28,8 @@ pub fn overwrite(dst: &mut [u64], src: &[u64])
     requires { length src.now ≡ length dst.old }
     ensures { dst.new ≡ overwritten dst.old src.now }
 {
-    let mut i: usize = 0;
-    while i < dst.len() {
+    for i in 0..dst.len() {
         dst[i] = source_first(dst[i], src[i]);
-        i += 1;
     }
 }
 
@@ -41,26 +39,26 @@ pub fn put_overwritten(out: &mut [u64], dst: &[u64], src: &[u64])
     requires src_len { length src.now ≡ length out.old }
     ensures { out.new ≡ overwritten dst.now src.now }
 {
-    let mut i: usize = 0;
-    while i < out.len() {
-        out[i] = source_first(dst[i], src[i]);
-        i += 1;
-    }
+    rows::zip_rows(source_first, dst, src, out);
 }
 
 // Merges src into dst where at most `allowance` places have both; the destination changes only then.
-pub fn merge_non_overlapping_timeseries(dst: &mut [u64], src: &[u64], allowance: usize) -> Merged
+pub fn merge_non_overlapping_timeseries(
+    dst: &mut [u64],
+    src: &[u64],
+    allowance: usize,
+) -> Result<(), MergeError>
     ensures { MergedAs allowance dst.old src.now result dst.new }
 {
     if Operator::MAX_ALLOWANCE < allowance {
-        return Merged::BadAllowance;
+        return Err(MergeError::BadAllowance);
     }
     if dst.len() != src.len() {
-        return Merged::Unequal;
+        return Err(MergeError::Unequal);
     }
-    if mergeable::merges(dst, src, allowance) {
-        overwrite(dst, src);
-        return Merged::Done;
+    if !mergeable::merges(dst, src, allowance) {
+        return Err(MergeError::Overlapping);
     }
-    Merged::Overlapping
+    overwrite(dst, src);
+    Ok(())
 }

@@ -18,6 +18,7 @@ use Rattle.model.specs.Lists.{cases}
 use Rattle.model.proofs.Laws.Row.{overwritten_wide}
 use Rattle.model.proofs.Laws.Booleans.{and_true, and_false}
 use Rattle.reading.specs.Gaps.{gap_of}
+use Rattle.reading.proofs.AllGaps.{and_one}
 use Rattle.mergeable.specs.Mergeable.{either_gap, source_first, merged_if, mergeable}
 
 -- 1 where one is missing
@@ -184,12 +185,6 @@ module _ (d s e t : List ℕ) where
             go false = refl
 
 -- whether two merges into one row succeed, one after the other
-
-and_one : (p q : Bool) → bit_and (cond p 1 0) (cond q 1 0) ≡ cond (p && q) 1 0
-and_one true true = refl
-and_one true false = refl
-and_one false true = refl
-and_one false false = refl
 
 -- the source first: a gap where both have one
 first_missing : (x y : ℕ) → missing (source_first x y) ≡ (missing x && missing y)

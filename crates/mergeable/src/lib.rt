@@ -18,10 +18,8 @@ fn overlaps(dst: &[u64], src: &[u64]) -> usize
     ensures { result ≡ overlaps dst.now src.now }
 {
     let mut n: usize = 0;
-    let mut i: usize = 0;
-    while i < dst.len() {
-        n += either_gap(dst[i], src[i]);
-        i += 1;
+    for (x, y) in dst.iter().zip(src) {
+        n += either_gap(*x, *y);
     }
     dst.len() - n
 }
@@ -54,11 +52,10 @@ pub fn both_merge(
 {
     let mut n: usize = 0;
     let mut m: usize = 0;
-    let mut i: usize = 0;
-    while i < dst.len() {
+    // An index: zips of four rows are no plainer.
+    for i in 0..dst.len() {
         n += either_gap(dst[i], src[i]);
         m += either_gap(other_dst[i], other_src[i]);
-        i += 1;
     }
     if allowance < dst.len() - n {
         return false;
@@ -85,13 +82,12 @@ pub fn three_merge(dst: &[u64], src: &[u64], later: &[u64], allowance: usize) ->
 {
     let mut n: usize = 0;
     let mut k: usize = 0;
-    let mut i: usize = 0;
-    while i < dst.len() {
+    // An index: zips of three rows are no plainer.
+    for i in 0..dst.len() {
         let x = dst[i];
         let y = src[i];
         n += either_gap(x, y);
         k += gap_after(x, y, later[i]);
-        i += 1;
     }
     if allowance < dst.len() - n {
         return false;

@@ -1,4 +1,4 @@
--- Rows of a group merged: one row, and the loop over the rows. Assumes nothing.
+-- Rows of a group merged: the loop over the rows, and what a leader begins with. Assumes nothing.
 use Prim.Native.Nat.{ℕ, suc, ◌+◌, ◌-◌, ◌*◌, ◌≤◌, ◌<◌}
 use mathlib.Core.Path.{◌≡◌, refl, sym, ap, ◌∙◌}
 use mathlib.Core.Bool.{Bool, true, false}
@@ -8,38 +8,14 @@ use native.Mathlib.Numerals.{add-one}
 use native.Mathlib.Omega.{arith}
 use lib.Dec.{eqb}
 use lib.ListN.{length, get_or, take, drop, length-drop}
-use lib.Seq.{drop-cons, length-take-le, take_all}
-use borrow.Author.Tests.{eq-eqb, ne_eqb}
+use lib.Seq.{drop-cons, take_all}
 use Rattle.model.specs.Lists.{cases}
-use Rattle.model.specs.Row.{overwritten, merged}
-use Rattle.mergeable.specs.Mergeable.{merged_if}
 use Rattle.plan.specs.Merging.{RowMerge, row, failed_at, on_row, merge_group, merge_lead}
 use Rattle.side_parts.specs.Sides.{row_at}
 use Rattle.side_parts.specs.SideLaws.{row_in, row_width}
-use Rattle.merging.specs.declared.Merges.{Merges}
-use Rattle.merging.specs.declared.Merges.TheVariants.{Done, FailedAt}
+use Rattle.std.specs.Prelude.{Result, Ok, Err, ⊤}
+use Rattle.merging.specs.declared.Unmerged.{Unmerged}
 use Rattle.merging.specs.Groups.{absorbed_one, there_if, AbsorbedAs, MergedGroup}
-
--- `absorb`
-
-module _ (allowance : ℕ) (rows : List ℕ) (x g i : ℕ) (d : List ℕ) where
-  pub absorb_other : (x ≡ g → ⊥) → AbsorbedAs allowance rows x g i d d true
-  absorb_other h = record { answer = rw (ne_eqb x g h); unmerged = λ e. refl; long = refl }
-
-  -- the row that the code lends
-  module _ (room : i * length d + length d ≤ length rows) (s : List ℕ) (hs : s ≡ row_at (length d) rows i) where
-    pub row_wide : length s ≡ length d
-    row_wide = ap length hs ∙ length-take-le (length d) (drop (i * length d) rows) (omega (arith, length-drop (i * length d) rows))
-
-    module _ (h : x ≡ g) (r : Bool) (tried : merged_if r d s ≡ merged allowance d s) where
-      one : merged_if r d s ≡ absorbed_one allowance rows x g i d
-      one = rw (eq-eqb x g h, ← hs) tried
-
-      pub absorb_done : r ≡ true → (d' : List ℕ) → d' ≡ overwritten d s → length d' ≡ length d → AbsorbedAs allowance rows x g i d d' true
-      absorb_done e d' hd long = record { answer = rw (hd, ← one, e); unmerged = λ f. cc; long = long }
-
-      pub absorb_overlapping : r ≡ false → AbsorbedAs allowance rows x g i d d false
-      absorb_overlapping e = record { answer = rw (← one, e); unmerged = λ f. refl; long = refl }
 
 -- the loop of `merge_between`
 
@@ -71,9 +47,6 @@ module _ (allowance : ℕ) (rows groups : List ℕ) (g : ℕ) where
 
   module _ (p to i : ℕ) (d : List ℕ) (want : RowMerge) (inv : Merging-on allowance p rows groups g to i d want) where
     module _ (h : i < to) (k : to ≤ length groups) where
-      pub between_row : length groups * p ≤ length rows → i * length d + length d ≤ length rows
-      between_row room = rw inv.long (omega (arith, row_in i (length groups) p (omega arith)))
-
       next : on_row (absorbed_one allowance rows (get_or groups i 0) g i d) (failed_at i d)
           (merge_group allowance (length d) rows g (suc i) (take (to - suc i) (drop (suc i) groups))) ≡ want
       next =
@@ -91,7 +64,7 @@ module _ (allowance : ℕ) (rows groups : List ℕ) (g : ℕ) where
                   (merge_group allowance (length d) rows g (suc i) (take (to - suc i) (drop (suc i) groups))) (rw e at u.answer)) ∙ next);
             }
 
-        pub between_failed : r ≡ false → MergedGroup want p d' (FailedAt i)
+        pub between_failed : r ≡ false → MergedGroup want p d' (Err (record { 0 = i }))
         between_failed e =
             record {
               answer = ap (failed_at i) (u.unmerged e) ∙ sym
@@ -100,7 +73,7 @@ module _ (allowance : ℕ) (rows groups : List ℕ) (g : ℕ) where
               long = u.long ∙ inv.long;
             }
 
-    pub between_ends : to ≤ i → MergedGroup want p d Done
+    pub between_ends : to ≤ i → MergedGroup want p d (Ok tt)
     between_ends h = record { answer = none_left ∙ inv.rest; long = inv.long }
       where
         none_left : row d ≡ merge_group allowance p rows g i (take (to - i) (drop i groups)) d
@@ -110,16 +83,13 @@ module _ (allowance : ℕ) (rows groups : List ℕ) (g : ℕ) where
 
 module _ (rows keys : List ℕ) (p : ℕ) (room : length keys * p ≤ length rows) where
   module _ (o : ℕ) (h : o < length keys) where
-    pub lead_row : o * p + p ≤ length rows
+    lead_row : o * p + p ≤ length rows
     lead_row = omega (arith, row_in o (length keys) p h)
 
-    pub lead_long : (s : List ℕ) → s ≡ row_at p rows o → length s ≡ p
+    lead_long : (s : List ℕ) → s ≡ row_at p rows o → length s ≡ p
     lead_long s hs = row_width p rows s o lead_row hs
 
-    pub lead_room : (s d : List ℕ) → s ≡ row_at p rows o → d ≡ s → length keys * length d ≤ length rows
-    lead_room s d hs hd = let e : length d ≡ p = rw hd (lead_long s hs) in rw e room
-
-    pub lead_merged : (allowance : ℕ) (s d : List ℕ) → s ≡ row_at p rows o → d ≡ s → (d' : List ℕ) (r : Merges)
+    pub lead_merged : (allowance : ℕ) (s d : List ℕ) → s ≡ row_at p rows o → d ≡ s → (d' : List ℕ) (r : Result ⊤ Unmerged)
         → MergedGroup (merge_group allowance (length d) rows o (o + 1) (take (length keys - (o + 1)) (drop (o + 1) keys)) d) (length d) d' r
         → MergedGroup (merge_lead allowance p rows keys o) p d' r
     unfolding merge_lead

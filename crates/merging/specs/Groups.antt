@@ -1,11 +1,10 @@
 -- What the code's merges come to: one row of a group, and the rows of a group. Assumes nothing.
-use Rattle.std.specs.Prelude.{ℕ, ◌≡◌, Bool, true, false, cond, List, eqb, length}
+use Rattle.std.specs.Prelude.{ℕ, ◌≡◌, Bool, true, false, cond, List, eqb, length, Result, Ok, Err, ⊤}
 use Rattle.std.proofs.Math.Option.{Option, none, some}
 use Rattle.model.specs.Row.{merged}
 use Rattle.plan.specs.Merging.{RowMerge, row, failed_at}
 use Rattle.side_parts.specs.Sides.{row_at}
-use Rattle.merging.specs.declared.Merges.{Merges}
-use Rattle.merging.specs.declared.Merges.TheVariants.{Done, FailedAt}
+use Rattle.merging.specs.declared.Unmerged.{Unmerged}
 
 -- d with the row of the series i, whose group is x, merged into it if that is g
 abbrev pub absorbed_one : ℕ → List ℕ → ℕ → ℕ → ℕ → List ℕ → Option (List ℕ)
@@ -23,11 +22,11 @@ pub record AbsorbedAs (allowance : ℕ) (rows : List ℕ) (x g i : ℕ) (d d' : 
   pub long : length d' ≡ length d
 
 -- the row where the merges are done, else the place of the series that failed to merge, and the row as merged before it
-abbrev pub merges_to : Merges → List ℕ → RowMerge
-merges_to Done d = row d
-merges_to (FailedAt i) d = failed_at i d
+abbrev pub merges_to : Result ⊤ Unmerged → List ℕ → RowMerge
+merges_to (Ok _) d = row d
+merges_to (Err e) d = failed_at e.0 d
 
 -- merges that are to come to `want` answer r and leave d, p readings wide
-pub record MergedGroup (want : RowMerge) (p : ℕ) (d : List ℕ) (r : Merges) : Type 0 where
+pub record MergedGroup (want : RowMerge) (p : ℕ) (d : List ℕ) (r : Result ⊤ Unmerged) : Type 0 where
   pub answer : merges_to r d ≡ want
   pub long : length d ≡ p

@@ -22,12 +22,9 @@ fn absorb(rows: &[u64], x: usize, g: usize, i: usize, allowance: usize, dst: &mu
     false
 }
 
-// What the merges of a group come to.
-#[derive(Clone, Copy)]
-pub enum Merges {
-    Done,
-    FailedAt(usize),
-}
+// The place of the series whose row may not be merged.
+#[derive(Clone, Copy, Debug, PartialEq, Eq)]
+pub struct Unmerged(pub usize);
 
 // Merges the rows of a group from a place up to another, in order.
 pub fn merge_between(
@@ -38,7 +35,7 @@ pub fn merge_between(
     to: usize,
     allowance: usize,
     dst: &mut [u64],
-) -> Merges
+) -> Result<(), Unmerged>
     requires from_le_to { from ≤ to }
     requires to_in_bounds { to ≤ length groups.now }
     requires dst_in_bounds { length groups.now * length dst.old ≤ length rows.now }
@@ -47,15 +44,12 @@ pub fn merge_between(
         (take (to - from) (drop from groups.now)) dst.old)
         (length dst.old) dst.new result }
 {
-    let mut i = from;
-    while i < to {
-        if absorb(rows, groups[i], g, i, allowance, dst) {
-            i += 1;
-        } else {
-            return Merges::FailedAt(i);
+    for i in from..to {
+        if !absorb(rows, groups[i], g, i, allowance, dst) {
+            return Err(Unmerged(i));
         }
     }
-    Merges::Done
+    Ok(())
 }
 
 // The row that leads a group, with the later ones merged into it.
@@ -65,7 +59,7 @@ pub fn merge_lead(
     o: usize,
     allowance: usize,
     dst: &mut [u64],
-) -> Merges
+) -> Result<(), Unmerged>
     requires o_in_bounds { o < length leads.now }
     requires dst_in_bounds { length leads.now * length dst.old ≤ length rows.now }
     ensures { MergedGroup (merge_lead allowance (length dst.old) rows.now leads.now o)

@@ -9,8 +9,7 @@ ghost use Rattle.semantics.specs.Exposition.{export};
 ghost use Rattle.answers.specs.Outcomes.{told};
 ghost use Rattle.nosingcatnip.specs.Reports.{numbers_of, Reported, export_numbers, ExportReported};
 
-use answers::{Outcome, Told};
-use export_text::Exported;
+use answers::{Numbers, Outcome};
 use side_parts::Shape;
 
 // What is told of a refusal's shape.
@@ -26,16 +25,8 @@ fn report(outcome: Outcome, res: &mut [u64; 8])
     ensures { res.new ≡ sets res.old 0 (numbers_of (told outcome)) }
 {
     match answers::told_as(outcome) {
-        Told::Answer {
-            series,
-            shape,
-            bytes,
-        } => put(res, 0, 0, 0, series, shape, bytes),
-        Told::Refusal {
-            number,
-            first,
-            second,
-        } => put(res, number, first, second, 0, NONE, 0),
+        Ok(answer) => put(res, 0, 0, 0, answer.series, answer.shape, answer.bytes),
+        Err(told) => put(res, told.number, told.first, told.second, 0, NONE, 0),
     }
 }
 
@@ -112,16 +103,12 @@ pub extern "C" fn nosingcatnip_exec_aggregate(
 }
 
 // What an export is in four numbers: number and fields of a refusal, then the length of a text.
-fn report_export(exported: Exported, res: &mut [u64; 4])
+fn report_export(exported: Result<usize, Numbers>, res: &mut [u64; 4])
     ensures { res.new ≡ sets res.old 0 (export_numbers exported) }
 {
     match exported {
-        Exported::Text { bytes } => put_four(res, 0, 0, 0, bytes),
-        Exported::Refused {
-            number,
-            first,
-            second,
-        } => put_four(res, number, first, second, 0),
+        Ok(bytes) => put_four(res, 0, 0, 0, bytes),
+        Err(told) => put_four(res, told.number, told.first, told.second, 0),
     }
 }
 

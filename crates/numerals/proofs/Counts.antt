@@ -1,14 +1,12 @@
 -- Decimal digits, counted. Assumes nothing.
 use Prim.Native.Nat.{ℕ, zero, suc, ◌≤◌, ◌<◌, ◌+◌, ◌-◌, ◌/◌}
 use mathlib.Core.Path.{◌≡◌}
-use mathlib.Core.List.{List}
 use native.Mathlib.Omega.{arith}
 use lib.Dec.{ltb}
 use lib.ListN.{length}
 use borrow.Author.Tests.{lt-ltb, le-ltb}
 use Rattle.model.specs.Lists.{cases}
-use Rattle.model.specs.Numerals.{digits, digit_count, decimal}
-use Rattle.writing.specs.Written.{Put}
+use Rattle.model.specs.Numerals.{digit_count, decimal}
 use Rattle.numerals.proofs.Digits.{digits_length}
 
 pub count_most : (k n : ℕ) → digit_count k n ≤ k
@@ -26,9 +24,6 @@ decimal_most n = omega (arith, decimal_length n, count_most 20 n)
 pub record Counting (n k rest : ℕ) : Type 0 where
   pub some : k ≤ 20
   pub total : k + digit_count (20 - k) rest ≡ digit_count 20 n
-
-pub count_start : (n : ℕ) → Counting n 0 n
-count_start n = record { some = omega arith; total = omega arith }
 
 module _ (n k rest : ℕ) (inv : Counting n k rest) where
   pub count_turn : k < 20 → 10 ≤ rest → Counting n (k + 1) (rest / 10)
@@ -49,17 +44,9 @@ module _ (n k rest : ℕ) (inv : Counting n k rest) where
       step : (m : ℕ) → digit_count (suc m) rest ≡ 1
       step m = unfold digit_count in rw (lt-ltb rest 10 g)
 
-  pub count_full : 20 ≤ k → k ≡ digit_count 20 n
+  pub count_full : 20 ≤ k → 20 ≡ digit_count 20 n
   unfolding digit_count
   count_full h =
       let e : 20 - k ≡ 0 = omega arith in
       let s : digit_count (20 - k) rest ≡ 0 = rw e in
       omega (arith, inv.total, s)
-
--- `put_decimal`
-module _ (n k : ℕ) (hk : k ≡ digit_count 20 n) (d : List ℕ) (at : ℕ) where
-  pub decimal_room : at + length (decimal n) ≤ length d → at + length (digits 10 k n) ≤ length d
-  decimal_room h = rw hk h
-
-  pub decimal_put : (d' : List ℕ) (r : ℕ) → Put d at (digits 10 k n) d' r → Put d at (decimal n) d' r
-  decimal_put d' r p = rw (← hk) p

@@ -4,24 +4,13 @@ use mathlib.Core.Path.{◌≡◌, refl, sym, ap, ◌∙◌}
 use mathlib.Core.List.{List, [], ◌∷◌, ◌++◌}
 use native.Mathlib.Omega.{arith}
 use native.Mathlib.Numerals.{add-one}
-use native.Mathlib.Nat.{mod-lt}
 use mir.Syntax.{w64}
 use mir.Val.{Fits}
 use lib.ListN.{length, take, drop, set, length-append, length-set}
 use lib.Seq.{drop-cons, drop-set-lt, take-set-le, get_or-set_same, append_snoc, lt-length-set}
-use borrow.Author.Tests.{lt-ltb, le-ltb}
 use Rattle.model.specs.Numerals.{digit, digits}
 use Rattle.writing.specs.Written.{written, Put}
 use Rattle.writing.proofs.Written.{written_none}
-
-pub digit_low : (d : ℕ) → d < 10 → 48 + d ≡ digit d
-digit_low d h = rw (lt-ltb d 10 h)
-
-pub digit_high : (d : ℕ) → 10 ≤ d → 87 + d ≡ digit d
-digit_high d h = rw (le-ltb d 10 h)
-
-pub digit_small : (base n : ℕ) → 1 < base → base ≤ 16 → n % base < 16
-digit_small base n h g = omega (arith, mod-lt n {m = base} (omega arith))
 
 pub digits_length : (base k n : ℕ) → length (digits base k n) ≡ k
 unfolding digits
@@ -46,9 +35,6 @@ pub record DigitsLeft (base k n : ℕ) (d₀ : List ℕ) (at : ℕ) (d : List �
   pub some : i ≤ k
   pub size : length d ≡ length d₀
   pub same : written d₀ at (digits base k n) ≡ written d at (digits base i rest)
-
-pub digits_start : (base k n : ℕ) (d : List ℕ) (at : ℕ) → DigitsLeft base k n d at d k n
-digits_start base k n d at = record { some = omega arith; size = refl; same = refl }
 
 module _ (base k n : ℕ) (d₀ : List ℕ) (at : ℕ) (d : List ℕ) (i rest : ℕ) (inv : DigitsLeft base k n d₀ at d i rest)
     (room : at + length (digits base k n) ≤ length d₀) where

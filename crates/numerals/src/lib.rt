@@ -10,9 +10,9 @@ fn digit_of(d: u64) -> u8
     ensures { result ≡ digit d }
 {
     if d < 10 {
-        (48 + d) as u8
+        b'0' + d as u8
     } else {
-        (87 + d) as u8
+        b'a' + (d - 10) as u8
     }
 }
 
@@ -23,12 +23,9 @@ pub fn put_digits(out: &mut [u8], at: usize, base: u64, k: usize, n: u64) -> usi
     requires base_bound { base ≤ 16 }
     ensures { Put out.old at (digits base k n) out.new result }
 {
-    let mut i = k;
     let mut rest = n;
-    while 0 < i {
-        i -= 1;
-        let o = at + i;
-        out[o] = digit_of(rest % base);
+    for i in (0..k).rev() {
+        out[at + i] = digit_of(rest % base);
         rest /= base;
     }
     at + k
@@ -38,16 +35,14 @@ pub fn put_digits(out: &mut [u8], at: usize, base: u64, k: usize, n: u64) -> usi
 pub fn digit_count(n: u64) -> usize
     ensures { result ≡ digit_count 20 n }
 {
-    let mut k: usize = 0;
     let mut rest = n;
-    while k < 20 {
+    for k in 0..20 {
         if rest < 10 {
             return k + 1;
         }
         rest /= 10;
-        k += 1;
     }
-    k
+    20
 }
 
 // Writes a number's decimal digits.

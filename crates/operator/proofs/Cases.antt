@@ -1,20 +1,17 @@
--- Laws for a `match` on an operator or on its number. Assumes nothing.
+-- A law for a `match` on an operator. Assumes nothing.
 use mathlib.Core.Path.{◌≡◌, refl, sym, ◌∙◌, ap}
 use mathlib.Core.Bool.{Bool, true, false, ◌&&◌, beq}
-use mathlib.Core.Option.{none}
 use mathlib.Core.List.{List, [], ◌∷◌}
 use mathlib.Core.Logic.{inl, inr}
-use Prim.Native.Nat.{ℕ, zero, suc, ◌≤◌, ◌<◌}
-use native.Mathlib.Omega.{arith}
-use native.Mathlib.Nat.{le_of_suc-le-suc, not-suc-le-zero}
+use Prim.Native.Nat.{ℕ}
 use lib.Dec.{T}
-use lib.ListN.{length, get_or}
+use lib.ListN.{get_or}
 use types.Run.{OneOf}
 use denote.Enum.Declared.{tag_of}
 use Rattle.operator.specs.declared.Operator.{Operator}
 use Rattle.operator.specs.declared.Operator.TheVariants.{Add, And, Atan2, Default, Div, Eql, Mod, Mul, Pow, Sub, Gt, Gte, If, IfNot, Lt, Lte}
 use Rattle.operator.specs.declared.Operator.TheVariants.{NotEq, Or, Unless}
-use Rattle.operator.specs.Operators.{operators, nth}
+use Rattle.operator.specs.Operators.{operators}
 use Rattle.operator.specs.contracts.Operator.{the_type}
 
 abbrev numbered : ℕ → Operator
@@ -67,29 +64,3 @@ by_numbers f b [] t o h = absurd h
 by_numbers f b (k ∷ []) t o h = at_one f b k [] t o h
 by_numbers f b (k ∷ k' ∷ ks) t o (inl h) = at_one f b k (k' ∷ ks) t o h
 by_numbers f b (k ∷ k' ∷ ks) t o (inr h) = by_numbers f b (k' ∷ ks) (and_both (beq b (f (numbered k))) (every f b (k' ∷ ks)) t).1 o h
-
--- past the end of a list nothing stands
-pub nth_past : {A : Type 0} (xs : List A) (n : ℕ) → length xs ≤ n → nth xs n ≡ none
-nth_past [] n h = refl
-nth_past (x ∷ xs) zero h = absurd (not-suc-le-zero h)
-nth_past (x ∷ xs) (suc n) h = nth_past xs n (le_of_suc-le-suc h)
-
-pub get_d_past : {A : Type 0} (xs : List A) (n : ℕ) (d : A) → length xs ≤ n → get_or xs n d ≡ d
-get_d_past [] n d h = refl
-get_d_past (x ∷ xs) zero d h = absurd (not-suc-le-zero h)
-get_d_past (x ∷ xs) (suc n) d h = get_d_past xs n d (le_of_suc-le-suc h)
-
--- before the end of a list no default is used
-pub get_or-within : {A : Type 0} (xs : List A) (n : ℕ) (d e : A) → n < length xs → get_or xs n d ≡ get_or xs n e
-get_or-within [] n d e h = absurd (not-suc-le-zero h)
-get_or-within (x ∷ xs) zero d e h = refl
-get_or-within (x ∷ xs) (suc n) d e h = get_or-within xs n d e (le_of_suc-le-suc h)
-
--- the last arm of a `match` on a number: x is none of the numbers below k
-abbrev Missed : ℕ → ℕ → Type 0
-Missed x zero = Unit {0}
-Missed x (suc k) = Missed x k × (x ≡ k → ⊥)
-
-pub missed : (x k : ℕ) → Missed x k → k ≤ x
-missed x zero m = omega arith
-missed x (suc k) m = omega (arith, missed x k m.0, m.1)

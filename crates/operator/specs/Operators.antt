@@ -1,11 +1,10 @@
 -- Operators by their numbers, and their tests. Assumes nothing.
-use Rattle.std.specs.Prelude.{ℕ, zero, suc, Bool, true, false, List, [], ◌∷◌}
+use Rattle.std.specs.Prelude.{ℕ, zero, suc, Bool, true, false, List, [], ◌∷◌, Result, Ok, Err}
 use Rattle.std.proofs.Math.Option.{Option, none, some}
 use Rattle.operator.specs.declared.Operator.{Operator}
 use Rattle.operator.specs.declared.Operator.TheVariants.{Add, And, Atan2, Default, Div, Eql, Mod, Mul, Pow, Sub, Gt, Gte, If, IfNot, Lt, Lte}
 use Rattle.operator.specs.declared.Operator.TheVariants.{NotEq, Or, Unless}
-use Rattle.operator.specs.declared.Coded.{Coded}
-use Rattle.operator.specs.declared.Coded.TheVariants.{Known, Unknown}
+use Rattle.operator.specs.declared.UnknownOperator.{UnknownOperator}
 use Rattle.operator.specs.Kinds.{Kind, arithmetic, comparison, set_rule, fallback, not_carried, kind_of}
 
 -- 01: Operators are numbered 0 to 18 as `Operator` lists them, 0 `Add` to 18 `Unless`.
@@ -20,13 +19,13 @@ nth (x ∷ xs) (suc n) = nth xs n
 abbrev pub operator_of : ℕ → Option Operator
 operator_of n = nth operators n
 
--- the answer of the code for what a byte stands for
-abbrev pub coded : Option Operator → Coded
-coded none = Unknown
-coded (some o) = Known o
+-- the answer of the code for what a byte stands for; an error has the byte
+abbrev pub coded : ℕ → Option Operator → Result Operator UnknownOperator
+coded b none = Err (record { 0 = b })
+coded b (some o) = Ok o
 
-abbrev pub coded_of : ℕ → Coded
-coded_of n = coded (operator_of n)
+abbrev pub coded_of : ℕ → Result Operator UnknownOperator
+coded_of b = coded b (operator_of b)
 
 abbrev pub compares : Kind → Bool
 compares (arithmetic a) = false

@@ -4,7 +4,7 @@
 ghost use Rattle.std.specs.Prelude.{◌≡◌};
 ghost use Rattle.operator.specs.Operators.{coded_of, is_comparison, is_logical_op, is_carried};
 
-#[derive(Clone, Copy)]
+#[derive(Clone, Copy, Debug, PartialEq, Eq)]
 pub enum Operator {
     Add,
     And,
@@ -27,16 +27,13 @@ pub enum Operator {
     Unless,
 }
 
-// What a query's operator byte stands for.
-#[derive(Clone, Copy)]
-pub enum Coded {
-    Known(Operator),
-    Unknown,
-}
+// A byte that stands for no operator.
+#[derive(Clone, Copy, Debug, PartialEq, Eq)]
+pub struct UnknownOperator(pub u8);
 
 impl Operator {
     // The label under which a series' name is listed, looked up and set.
-    pub const METRIC_NAME: [u8; 8] = [95, 95, 110, 97, 109, 101, 95, 95];
+    pub const METRIC_NAME: [u8; 8] = *b"__name__";
 
     pub const MAX_SERIES: usize = 512;
 
@@ -61,68 +58,70 @@ impl Operator {
     // The most overlapping places that a merge may allow.
     pub const MAX_ALLOWANCE: usize = 8;
 
-    pub fn from_byte(b: u8) -> Coded
-        ensures { result ≡ coded_of b }
-    {
-        match b {
-            0 => Coded::Known(Operator::Add),
-            1 => Coded::Known(Operator::And),
-            2 => Coded::Known(Operator::Atan2),
-            3 => Coded::Known(Operator::Default),
-            4 => Coded::Known(Operator::Div),
-            5 => Coded::Known(Operator::Eql),
-            6 => Coded::Known(Operator::Mod),
-            7 => Coded::Known(Operator::Mul),
-            8 => Coded::Known(Operator::Pow),
-            9 => Coded::Known(Operator::Sub),
-            10 => Coded::Known(Operator::Gt),
-            11 => Coded::Known(Operator::Gte),
-            12 => Coded::Known(Operator::If),
-            13 => Coded::Known(Operator::IfNot),
-            14 => Coded::Known(Operator::Lt),
-            15 => Coded::Known(Operator::Lte),
-            16 => Coded::Known(Operator::NotEq),
-            17 => Coded::Known(Operator::Or),
-            18 => Coded::Known(Operator::Unless),
-            _ => Coded::Unknown,
-        }
-    }
-
     pub fn is_comparison(self) -> bool
         ensures { result ≡ is_comparison self }
     {
-        match self {
+        matches!(
+            self,
             Operator::Eql
-            | Operator::Gt
-            | Operator::Gte
-            | Operator::Lt
-            | Operator::Lte
-            | Operator::NotEq => true,
-            _ => false,
-        }
+                | Operator::Gt
+                | Operator::Gte
+                | Operator::Lt
+                | Operator::Lte
+                | Operator::NotEq
+        )
     }
 
     pub fn is_logical_op(self) -> bool
         ensures { result ≡ is_logical_op self }
     {
-        match self {
+        matches!(
+            self,
             Operator::And
-            | Operator::Default
-            | Operator::If
-            | Operator::IfNot
-            | Operator::Or
-            | Operator::Unless => true,
-            _ => false,
-        }
+                | Operator::Default
+                | Operator::If
+                | Operator::IfNot
+                | Operator::Or
+                | Operator::Unless
+        )
     }
 
     // Whether calls run the operator: no quote takes a power or an angle.
     pub fn is_carried(self) -> bool
         ensures { result ≡ is_carried self }
     {
-        match self {
-            Operator::Atan2 | Operator::Pow => false,
-            _ => true,
+        !matches!(self, Operator::Atan2 | Operator::Pow)
+    }
+}
+
+// An operator by the byte of a query that stands for it.
+impl TryFrom<u8> for Operator {
+    type Error = UnknownOperator;
+
+    ghost try_from_gives = { λ b r. r ≡ coded_of b };
+
+    fn try_from(b: u8) -> Result<Self, UnknownOperator> {
+        match b {
+            0 => Ok(Operator::Add),
+            1 => Ok(Operator::And),
+            2 => Ok(Operator::Atan2),
+            3 => Ok(Operator::Default),
+            4 => Ok(Operator::Div),
+            5 => Ok(Operator::Eql),
+            6 => Ok(Operator::Mod),
+            7 => Ok(Operator::Mul),
+            8 => Ok(Operator::Pow),
+            9 => Ok(Operator::Sub),
+            10 => Ok(Operator::Gt),
+            11 => Ok(Operator::Gte),
+            12 => Ok(Operator::If),
+            13 => Ok(Operator::IfNot),
+            14 => Ok(Operator::Lt),
+            15 => Ok(Operator::Lte),
+            16 => Ok(Operator::NotEq),
+            17 => Ok(Operator::Or),
+            18 => Ok(Operator::Unless),
+            _ => Err(UnknownOperator(b)),
         }
     }
 }

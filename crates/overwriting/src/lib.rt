@@ -32,10 +32,8 @@ fn overwrite_between(
     ensures { dst.new ≡ overwritten_by (length dst.old) rows.now
         (in_group groups.now g) from (to - from) dst.old }
 {
-    let mut i = from;
-    while i < to {
+    for i in from..to {
         overwrite_if(rows, groups[i], g, i, dst);
-        i += 1;
     }
 }
 
@@ -63,6 +61,7 @@ fn overwrite_word(rows: &[u64], word: usize, from: usize, count: usize, dst: &mu
 {
     let mut w = word;
     let mut i = from;
+    // By the bits of a word, which may end before the places do.
     while w != 0 {
         if count <= i {
             return;
@@ -84,6 +83,7 @@ fn overwrite_marks(rows: &[u64], marks: &[usize], o: usize, count: usize, dst: &
 {
     let mut k: usize = 0;
     let mut i = o + 1;
+    // By words: 64 places a step.
     while i < count {
         overwrite_word(rows, marks[k], i, count, dst);
         k += 1;

@@ -10,8 +10,7 @@ ghost use Rattle.answers.specs.Plans.{PlannedAs};
 ghost use Rattle.pair_plan.specs.pairs.Pairing.{pair_codes};
 ghost use Rattle.side_parts.specs.Lent.{unlabelled, BothRowsHeld, Sides};
 
-use crate::pair_checks::Checked;
-use answers::Planned;
+use answers::Twice;
 
 // Every merge tried, then the answer's rows listed by their codes, as far as the list goes.
 pub fn plan_pairs(
@@ -20,7 +19,7 @@ pub fn plan_pairs(
     keys: [&[usize]; 2],
     rows: [&[u64]; 2],
     codes: &mut [usize],
-) -> Planned
+) -> Result<usize, Twice>
     requires { let s = unlabelled p keys rows in BothRowsHeld s }
     ensures { let s = unlabelled p keys.entry rows.entry in
         PlannedAs (pairs_clash allowance s 0 s.left.keys) (pair_codes s) [] codes.old codes.new result }
@@ -28,9 +27,6 @@ pub fn plan_pairs(
     let mut ends = [0usize; 512];
     let mut work = [0u64; 1024];
     key_ends::pair_ends(keys[0], keys[1], &mut ends);
-    match pair_checks::check_pairs(allowance, p, keys, rows, &ends, &mut work) {
-        Checked::Left { kept, failed } => Planned::LeftTwice { kept, failed },
-        Checked::Right { kept, failed } => Planned::RightTwice { kept, failed },
-        Checked::Fine => Planned::Rows(pairs::list_codes(keys[0], keys[1], &ends, codes)),
-    }
+    pair_checks::check_pairs(allowance, p, keys, rows, &ends, &mut work)?;
+    Ok(pairs::list_codes(keys[0], keys[1], &ends, codes))
 }

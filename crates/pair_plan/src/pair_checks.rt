@@ -15,7 +15,8 @@ ghost use Rattle.pair_plan.specs.pair_checks.Checks.{failure_of, failed_in, Trie
 ghost use Rattle.pair_plan.specs.pair_checks.Checks.{twos_merge, clash_in, clash_at};
 
 use crate::pairs;
-use merging::Merges;
+use answers::{Clash, Twice};
+use merging::Unmerged;
 
 // Whether the row of one series merges into that of another; nothing is written.
 fn row_merges(rows: &[u64], p: usize, into: usize, from: usize, allowance: usize) -> bool
@@ -41,7 +42,7 @@ fn ensure_between(
     prev: usize,
     allowance: usize,
     row: &mut [u64],
-) -> Merges
+) -> Result<(), Unmerged>
     requires from_le_prev { from ≤ prev }
     requires prev_in_bounds { prev < length keys.now }
     requires row_in_bounds { length keys.now * length row.old ≤ length rows.now }
@@ -52,15 +53,11 @@ fn ensure_between(
         (merge_one allowance (length row.old) rows.now prev))
         (length row.old) row.new result }
 {
-    match merging::merge_between(rows, keys, k, from, prev, allowance, row) {
-        Merges::FailedAt(i) => Merges::FailedAt(i),
-        Merges::Done => {
-            if mergeable::merges(row, side_parts::row(rows, row.len(), prev), allowance) {
-                Merges::Done
-            } else {
-                Merges::FailedAt(prev)
-            }
-        }
+    merging::merge_between(rows, keys, k, from, prev, allowance, row)?;
+    if mergeable::merges(row, side_parts::row(rows, row.len(), prev), allowance) {
+        Ok(())
+    } else {
+        Err(Unmerged(prev))
     }
 }
 
@@ -82,15 +79,13 @@ fn three_merge(
     requires last_in_bounds { last < length keys.now }
     ensures { result ≡ three_merge allowance p rows.now keys.now k first prev last }
 {
-    if key_places::are_two(keys, k, first, prev) {
-        return mergeable::three_merge(
+    key_places::are_two(keys, k, first, prev)
+        && mergeable::three_merge(
             side_parts::row(rows, p, last),
             side_parts::row(rows, p, first),
             side_parts::row(rows, p, prev),
             allowance,
-        );
-    }
-    false
+        )
 }
 
 // Whether three or more series of a key become a single one, tried in turn: the first is tried on the last, then put
@@ -105,7 +100,7 @@ fn ensure_in_turn(
     p: usize,
     allowance: usize,
     work: &mut [u64],
-) -> Merges
+) -> Result<(), Unmerged>
     requires rows_held { RowsHeld p rows.now keys.now }
     requires key_ends { KeyEnds keys.now k first last }
     requires first_lt_last { first < last }
@@ -114,15 +109,15 @@ fn ensure_in_turn(
     ensures result_value { failed_in result ≡ failure_of (merge_last allowance p rows.now keys.now k) }
     ensures work_len_unchanged { length work.new ≡ length work.old }
 {
-    if row_merges(rows, p, last, first, allowance) {
-        merge::put_overwritten(
-            &mut work[..p],
-            side_parts::row(rows, p, last),
-            side_parts::row(rows, p, first),
-        );
-        return ensure_between(rows, keys, k, first + 1, prev, allowance, &mut work[..p]);
+    if !row_merges(rows, p, last, first, allowance) {
+        return Err(Unmerged(first));
     }
-    Merges::FailedAt(first)
+    merge::put_overwritten(
+        &mut work[..p],
+        side_parts::row(rows, p, last),
+        side_parts::row(rows, p, first),
+    );
+    ensure_between(rows, keys, k, first + 1, prev, allowance, &mut work[..p])
 }
 
 // Whether three or more series of a key become a single one: at once where they are three that merge, else in turn.
@@ -135,7 +130,7 @@ fn ensure_several(
     p: usize,
     allowance: usize,
     work: &mut [u64],
-) -> Merges
+) -> Result<(), Unmerged>
     requires rows_held { RowsHeld p rows.now keys.now }
     requires key_ends { KeyEnds keys.now k first last }
     requires first_lt_last { first < last }
@@ -146,7 +141,7 @@ fn ensure_several(
 {
     let prev = key_places::last_of(&keys[..last], k);
     if three_merge(rows, keys, k, first, prev, last, p, allowance) {
-        return Merges::Done;
+        return Ok(());
     }
     ensure_in_turn(rows, keys, k, first, prev, last, p, allowance, work)
 }
@@ -161,7 +156,7 @@ fn ensure_merges(
     p: usize,
     allowance: usize,
     work: &mut [u64],
-) -> Merges
+) -> Result<(), Unmerged>
     requires rows_held { RowsHeld p rows.now keys.now }
     requires key_ends { KeyEnds keys.now k first last }
     requires first_lt_last { first < last }
@@ -169,13 +164,14 @@ fn ensure_merges(
     ensures result_value { failed_in result ≡ failure_of (merge_last allowance p rows.now keys.now k) }
     ensures work_len_unchanged { length work.new ≡ length work.old }
 {
-    if key_places::are_two(keys, k, first, last) {
-        if row_merges(rows, p, last, first, allowance) {
-            return Merges::Done;
-        }
-        return Merges::FailedAt(first);
+    if !key_places::are_two(keys, k, first, last) {
+        return ensure_several(rows, keys, k, first, last, p, allowance, work);
     }
-    ensure_several(rows, keys, k, first, last, p, allowance, work)
+    if row_merges(rows, p, last, first, allowance) {
+        Ok(())
+    } else {
+        Err(Unmerged(first))
+    }
 }
 
 // Whether the series of a key on one side become a single one.
@@ -188,7 +184,7 @@ fn ensure_single_timeseries(
     p: usize,
     allowance: usize,
     work: &mut [u64],
-) -> Merges
+) -> Result<(), Unmerged>
     requires rows_held { RowsHeld p rows.now keys.now }
     requires key_ends { KeyEnds keys.now k first last }
     requires p_in_bounds { p ≤ length work.old }
@@ -196,17 +192,10 @@ fn ensure_single_timeseries(
     ensures work_len_unchanged { length work.new ≡ length work.old }
 {
     if first < last {
-        return ensure_merges(rows, keys, k, first, last, p, allowance, work);
+        ensure_merges(rows, keys, k, first, last, p, allowance, work)
+    } else {
+        Ok(())
     }
-    Merges::Done
-}
-
-// What the merges of both sides of a pair come to.
-#[derive(Clone, Copy)]
-pub(crate) enum Checked {
-    Fine,
-    Left { kept: usize, failed: usize },
-    Right { kept: usize, failed: usize },
 }
 
 // Both sides of a key, the left one first.
@@ -218,7 +207,7 @@ fn check_pair(
     k: usize,
     c: usize,
     work: &mut [u64],
-) -> Checked
+) -> Result<(), Twice>
     requires both_rows_held { let s = unlabelled p keys rows in BothRowsHeld s }
     requires code_of { let s = unlabelled p keys rows in CodeOf s.left.keys s.right.keys k c }
     requires k_in_bounds { let s = unlabelled p keys rows in first_of s.left.keys k < length s.left.keys }
@@ -227,35 +216,36 @@ fn check_pair(
     ensures result_value { let s = unlabelled p keys.entry rows.entry in clash_in result ≡ pair_clash allowance s k }
     ensures work_len_unchanged { length work.new ≡ length work.old }
 {
-    let last = end_codes::left_last(c);
-    match ensure_single_timeseries(
+    let left = end_codes::left_last(c);
+    ensure_single_timeseries(
         rows[0],
         keys[0],
         k,
         end_codes::left_first(c),
-        last,
+        left,
         p,
         allowance,
         work,
-    ) {
-        Merges::FailedAt(failed) => Checked::Left { kept: last, failed },
-        Merges::Done => {
-            let last = end_codes::right_last(c);
-            match ensure_single_timeseries(
-                rows[1],
-                keys[1],
-                k,
-                end_codes::right_first(c),
-                last,
-                p,
-                allowance,
-                work,
-            ) {
-                Merges::FailedAt(failed) => Checked::Right { kept: last, failed },
-                Merges::Done => Checked::Fine,
-            }
-        }
-    }
+    )
+    .map_err(|e| Twice::Left(Clash {
+        kept: left,
+        failed: e.0,
+    }))?;
+    let right = end_codes::right_last(c);
+    ensure_single_timeseries(
+        rows[1],
+        keys[1],
+        k,
+        end_codes::right_first(c),
+        right,
+        p,
+        allowance,
+        work,
+    )
+    .map_err(|e| Twice::Right(Clash {
+        kept: right,
+        failed: e.0,
+    }))
 }
 
 // Whether a code has exactly two series on each side, and they merge: both sides are tried at once.
@@ -264,16 +254,14 @@ fn two_merge(allowance: usize, p: usize, keys: [&[usize]; 2], rows: [&[u64]; 2],
     requires pair_code { let s = unlabelled p keys rows in PairCode s c }
     ensures { let s = unlabelled p keys.entry rows.entry in result ≡ twos_merge allowance s c }
 {
-    if key_places::both_two(keys, c) {
-        return mergeable::both_merge(
+    key_places::both_two(keys, c)
+        && mergeable::both_merge(
             side_parts::row(rows[0], p, end_codes::left_last(c)),
             side_parts::row(rows[0], p, end_codes::left_first(c)),
             side_parts::row(rows[1], p, end_codes::right_last(c)),
             side_parts::row(rows[1], p, end_codes::right_first(c)),
             allowance,
-        );
-    }
-    false
+        )
 }
 
 // Both sides of a key: at once where they merge so, else the left one first.
@@ -285,7 +273,7 @@ fn try_pair(
     k: usize,
     c: usize,
     work: &mut [u64],
-) -> Checked
+) -> Result<(), Twice>
     requires both_rows_held { let s = unlabelled p keys rows in BothRowsHeld s }
     requires code_of { let s = unlabelled p keys rows in CodeOf s.left.keys s.right.keys k c }
     requires k_in_bounds { let s = unlabelled p keys rows in first_of s.left.keys k < length s.left.keys }
@@ -295,7 +283,7 @@ fn try_pair(
     ensures work_len_unchanged { length work.new ≡ length work.old }
 {
     if two_merge(allowance, p, keys, rows, c) {
-        return Checked::Fine;
+        return Ok(());
     }
     check_pair(allowance, p, keys, rows, k, c, work)
 }
@@ -309,7 +297,7 @@ fn check_at(
     ends: &[usize],
     i: usize,
     work: &mut [u64],
-) -> Checked
+) -> Result<(), Twice>
     requires both_rows_held { let s = unlabelled p keys rows in BothRowsHeld s }
     requires pair_ends { let s = unlabelled p keys rows in PairEnds s.left.keys s.right.keys ends.now }
     requires i_in_bounds { let s = unlabelled p keys rows in i < length s.left.keys }
@@ -322,7 +310,7 @@ fn check_at(
     if pairs::is_pair(lkeys, keys[1], ends, i) {
         try_pair(allowance, p, keys, rows, lkeys[i], ends[i], work)
     } else {
-        Checked::Fine
+        Ok(())
     }
 }
 
@@ -334,23 +322,15 @@ pub(crate) fn check_pairs(
     rows: [&[u64]; 2],
     ends: &[usize],
     work: &mut [u64],
-) -> Checked
+) -> Result<(), Twice>
     requires both_rows_held { let s = unlabelled p keys rows in BothRowsHeld s }
     requires pair_ends { let s = unlabelled p keys rows in PairEnds s.left.keys s.right.keys ends.now }
     requires p_in_bounds { p ≤ length work.old }
     ensures result_value { let s = unlabelled p keys.entry rows.entry in clash_in result ≡ pairs_clash allowance s 0 s.left.keys }
     ensures work_len_unchanged { length work.new ≡ length work.old }
 {
-    let lkeys = keys[0];
-    let mut i: usize = 0;
-    while i < lkeys.len() {
-        match check_at(allowance, p, keys, rows, ends, i, work) {
-            Checked::Fine => {
-                i += 1;
-            }
-            Checked::Left { kept, failed } => return Checked::Left { kept, failed },
-            Checked::Right { kept, failed } => return Checked::Right { kept, failed },
-        }
+    for i in 0..keys[0].len() {
+        check_at(allowance, p, keys, rows, ends, i, work)?;
     }
-    Checked::Fine
+    Ok(())
 }

@@ -11,13 +11,9 @@ pub(crate) fn is_pair(lkeys: &[usize], rkeys: &[usize], ends: &[usize], i: usize
     requires i_in_bounds { i < length lkeys.now }
     ensures { result ≡ is_pair lkeys.now rkeys.now (get_or lkeys.now i 0) i }
 {
-    if lkeys[i] == key_ends::DROPPED {
-        return false;
-    }
-    if end_codes::left_first(ends[i]) != i {
-        return false;
-    }
-    end_codes::right_first(ends[i]) < rkeys.len()
+    lkeys[i] != key_ends::DROPPED
+        && end_codes::left_first(ends[i]) == i
+        && end_codes::right_first(ends[i]) < rkeys.len()
 }
 
 // Notes the codes of the answer, in answer order and as far as the list goes, and gives their number.
@@ -32,10 +28,8 @@ pub(crate) fn list_codes(
         list.old list.new result }
 {
     let mut n: usize = 0;
-    let mut i: usize = 0;
-    while i < lkeys.len() {
+    for i in 0..lkeys.len() {
         n = index_lists::note_if(is_pair(lkeys, rkeys, ends, i), ends[i], n, list);
-        i += 1;
     }
     n
 }

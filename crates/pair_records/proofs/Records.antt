@@ -1,13 +1,11 @@
 -- The edited record of a code: measured, and written. Assumes nothing.
-use Prim.Native.Nat.{ℕ, ◌+◌, ◌≤◌, ◌<◌}
+use Prim.Native.Nat.{ℕ}
 use mathlib.Core.Path.{◌≡◌, ap, ◌∙◌}
 use mathlib.Core.List.{List}
 use native.Mathlib.Omega.{arith}
 use lib.ListN.{length}
-use Rattle.model.specs.Record.{encode}
 use Rattle.model.specs.Query as Model
 use Rattle.record_tags.specs.Lenient.{labels_of}
-use Rattle.writing.specs.Written.{Put}
 use Rattle.kept_labels.specs.Edited.{Sized}
 use Rattle.kept_labels.specs.declared.Size.{Size}
 use Rattle.kept_labels.proofs.Sizes.{labels_short, kept_short}
@@ -17,10 +15,7 @@ use Rattle.side_parts.specs.Lent.{RecordsHeld}
 use Rattle.answers.specs.Tallies.{SizedRecord}
 use Rattle.end_codes.specs.Codes.{left_last}
 use Rattle.pair_records.specs.adjusted_labels.Edits.{keeps_name, edited}
-use Rattle.pair_records.specs.Records.{coded_pair_labels, RecordCode}
-
-pub code_place : (at : List ℕ) (c : ℕ) → RecordCode at c → (j : ℕ) → j ≡ left_last c → j + 1 < length at
-code_place at c k j hj = rw hj k.place
+use Rattle.pair_records.specs.Records.{coded_pair_labels}
 
 module _ (array at : List ℕ) (c j : ℕ) (hj : j ≡ left_last c) (rec : List ℕ) (hr : rec ≡ record_at array at j)
     (q : Model.Query) where
@@ -42,12 +37,3 @@ module _ (array at : List ℕ) (c j : ℕ) (hj : j ≡ left_last c) (rec : List 
           h.short,
         );
       }
-
-  module _ (d : List ℕ) (o : ℕ) where
-    pub code_room : o + length (encode (coded_pair_labels q array at c)) ≤ length d
-        → o + length (encode (edited q (labels_of rec))) ≤ length d
-    code_room r = rw same r
-
-    pub code_put : (d' : List ℕ) (r : ℕ) → Put d o (encode (edited q (labels_of rec))) d' r
-        → Put d o (encode (coded_pair_labels q array at c)) d' r
-    code_put d' r p = rw same at p

@@ -15,19 +15,12 @@ use query::Query;
 fn keeps_name(q: Query, names: &[u8]) -> bool
     ensures { result ≡ keeps_name (pair_query names.now q) }
 {
-    let matching = q.matching;
     if query_rules::should_reset_metric_group(q) {
         return false;
     }
-    match matching {
+    match q.matching {
         Matching::All => true,
-        Matching::On => {
-            if q.keep_names {
-                true
-            } else {
-                labels::in_list(names, &Operator::METRIC_NAME)
-            }
-        }
+        Matching::On => q.keep_names || labels::in_list(names, &Operator::METRIC_NAME),
         Matching::Ignoring => !labels::in_list(names, &Operator::METRIC_NAME),
     }
 }
@@ -36,9 +29,8 @@ fn keeps_name(q: Query, names: &[u8]) -> bool
 pub(crate) fn adjusted_size(rec: &[u8], q: Query, names: &[u8]) -> Size
     ensures { Sized (edited (pair_query names.now q) (labels_of rec.now)) result }
 {
-    let matching = q.matching;
     let keep = keeps_name(q, names);
-    kept_labels::kept_size(rec, matching, names, keep)
+    kept_labels::kept_size(rec, q.matching, names, keep)
 }
 
 // Writes a left record edited, and gives the place behind it.
@@ -53,7 +45,6 @@ pub(crate) fn adjust_binary_op_tags(
     ensures { Put out.old at (encode (edited (pair_query names.now q) (labels_of rec.now)))
         out.new result }
 {
-    let matching = q.matching;
     let keep = keeps_name(q, names);
-    kept_labels::put_kept(out, at, rec, matching, names, keep)
+    kept_labels::put_kept(out, at, rec, q.matching, names, keep)
 }

@@ -1,10 +1,10 @@
 // Two rows put together on each side, and the operator on the two, part by part: a part is short enough to stay at hand
 // from one step to the next.
-ghost use Rattle.std.specs.Prelude.{◌≡◌, ◌<◌, length};
+ghost use Rattle.std.specs.Prelude.{◌≡◌, length};
 ghost use Rattle.model.specs.Reading.{scalar_op};
 ghost use Rattle.model.specs.Row.{zip_with, overwritten};
 ghost use Rattle.answers.specs.Outcomes.{starting_with};
-ghost use Rattle.pair_series.specs.pair_parts.Parts.{PartEnd, PartsFit};
+ghost use Rattle.pair_series.specs.pair_parts.Parts.{PartsFit};
 
 use operator::Operator;
 
@@ -37,14 +37,6 @@ fn put_part(
     rows::apply_rows(op, as_bool, left_work, right_work, out);
 }
 
-// Where the part that begins at a point ends, of p points.
-fn part_end(from: usize, p: usize) -> usize
-    requires { from < p }
-    ensures { PartEnd from p result }
-{
-    if p - from <= 128 { p } else { from + 128 }
-}
-
 // The operator on two sides, each a source over its destination at the start of a work row.
 pub(crate) fn put_parts(
     op: Operator,
@@ -69,8 +61,9 @@ pub(crate) fn put_parts(
 {
     let p = out.len();
     let mut from: usize = 0;
+    // By parts: 128 points a step, or what is left.
     while from < p {
-        let to = part_end(from, p);
+        let to = p.min(from + 128);
         put_part(
             op,
             as_bool,

@@ -17,10 +17,9 @@ use Rattle.model.specs.Edits.{Names}
 use Rattle.model.specs.Query.{Listed, not_listed, listed, with_name, names_in, list_in, on_listed}
 use Rattle.model.proofs.Laws.Query.{not_listed_lem}
 use Rattle.labels.specs.Names.{names_of, names_listed}
-use Rattle.query.specs.declared.list_ends.ListEnd.{ListEnd}
-use Rattle.query.specs.declared.list_ends.ListEnd.TheVariants.{Until, Bad}
+use Rattle.std.specs.Prelude.{Option, Some, None}
 use Rattle.query.specs.list_ends.Ends.{end_of, end_told}
-use Rattle.query.specs.Queries.{lists, no_lists, closed, lists_in, matching_part, Counts, ListsAt}
+use Rattle.query.specs.Queries.{no_lists, closed, lists_in, matching_part, Counts, ListsAt}
 
 -- what is read as ns with `rest` behind it is a front that is read as ns alone
 record Front (read : List ℕ → Listed) (s : List ℕ) (ns : Names) (rest : List ℕ) : Type 0 where
@@ -118,21 +117,19 @@ taken_front t ns rest n e h =
       count = list_count t ns rest e;
     }
 
-pub list_taken : (t : List ℕ) (r : ListEnd) (n : ℕ) → end_told r ≡ end_of (length t) (list_in t) → r ≡ Until n
-    → ListTaken t n
-list_taken t r n e u = go (list_in t) refl (ap end_told (sym u) ∙ e)
+pub list_taken : (t : List ℕ) (n : ℕ) → end_told (Some n) ≡ end_of (length t) (list_in t) → ListTaken t n
+list_taken t n e = go (list_in t) refl e
   where
-    go : (l : Listed) → list_in t ≡ l → end_told (Until n) ≡ end_of (length t) l → ListTaken t n
-    go not_listed h e = absurd (let z : ◌≡◌ {A = ℕ} 0 1 = cc in omega arith)
+    go : (l : Listed) → list_in t ≡ l → end_told (Some n) ≡ end_of (length t) l → ListTaken t n
+    go not_listed h e = cc
     go (listed ns rest) h e = taken_front t ns rest n h (cc)
 
-pub list_refused : (t : List ℕ) (r : ListEnd) → end_told r ≡ end_of (length t) (list_in t) → r ≡ Bad
-    → list_in t ≡ not_listed
-list_refused t r e u = go (list_in t) (ap end_told (sym u) ∙ e)
+pub list_refused : (t : List ℕ) → end_told None ≡ end_of (length t) (list_in t) → list_in t ≡ not_listed
+list_refused t e = go (list_in t) e
   where
-    go : (l : Listed) → end_told Bad ≡ end_of (length t) l → l ≡ not_listed
+    go : (l : Listed) → end_told None ≡ end_of (length t) l → l ≡ not_listed
     go not_listed e = refl
-    go (listed ns rest) e = absurd (let z : ◌≡◌ {A = ℕ} 0 1 = cc in omega arith)
+    go (listed ns rest) e = cc
 
 -- the part of a slice from k on, as the code lends it
 abbrev pub part_from : ℕ → List ℕ → List ℕ
@@ -141,15 +138,12 @@ part_from k s = take (length s - k) (drop k s)
 pub part_is : (k : ℕ) (s : List ℕ) → part_from k s ≡ drop k s
 part_is k s = take_all (length s - k) (drop k s) (omega (arith, length-drop k s))
 
-module _ (k : ℕ) (s : List ℕ) (r : ListEnd) (e : end_told r ≡ end_of (length (part_from k s)) (list_in (part_from k s))) where
-  told : end_told r ≡ end_of (length (drop k s)) (list_in (drop k s))
-  told = e ∙ ap (λ z. end_of (length z) (list_in z)) (part_is k s)
+module _ (k : ℕ) (s : List ℕ) where
+  pub part_taken : (n : ℕ) → end_told (Some n) ≡ end_of (length (part_from k s)) (list_in (part_from k s)) → ListTaken (drop k s) n
+  part_taken n e = rw (← part_is k s) (list_taken (part_from k s) n e)
 
-  pub part_taken : (n : ℕ) → r ≡ Until n → ListTaken (drop k s) n
-  part_taken n u = list_taken (drop k s) r n told u
-
-  pub part_refused : r ≡ Bad → list_in (drop k s) ≡ not_listed
-  part_refused u = list_refused (drop k s) r told u
+  pub part_refused : end_told None ≡ end_of (length (part_from k s)) (list_in (part_from k s)) → list_in (drop k s) ≡ not_listed
+  part_refused e = rw (← part_is k s) (list_refused (part_from k s) e)
 
 -- the lists of a query
 
@@ -164,49 +158,42 @@ last_alone s k l h =
     let past : length s ≤ suc k = omega (arith, h) in
     rw (← h) (drop-cons s k 0 l ∙ ap (λ t. get_or s k 0 ∷ t) (drop_of_length-le s past))
 
-no_until : {X : Type 0} (at : ℕ) → Bad ≡ Until at → X
-no_until at e = absurd (let z : ◌≡◌ {A = ℕ} 0 1 = cc in omega arith)
+refused_lists_lem : (s : List ℕ) → no_lists ≡ lists_in (drop 4 s) → (r : Option ℕ) → r ≡ None → ListsAt s r
+refused_lists_lem s e r u = rw u (record { same = e; counts = λ at h. cc })
 
-refused_lists_lem : (s : List ℕ) → no_lists ≡ lists_in (drop 4 s) → ListsAt s Bad
-refused_lists_lem s e = record { same = e; counts = λ at u. no_until at u }
+module _ (s : List ℕ) (n : ℕ) (first : ListTaken (drop 4 s) n) where
+  second_at : lists_in (drop 4 s) ≡ on_listed (list_in (drop (4 + n) s)) no_lists (λ js s₂. closed first.names js s₂)
+  second_at = rw (first.is, drop-drop n 4 s)
 
-module _ (s : List ℕ) where
-  pub first_bad : list_in (drop 4 s) ≡ not_listed → ListsAt s Bad
-  first_bad e = refused_lists_lem s (rw e)
+  pub second_bad : list_in (drop (4 + n) s) ≡ not_listed → (r : Option ℕ) → r ≡ None → ListsAt s r
+  second_bad e = refused_lists_lem s (sym (second_at ∙ rw e))
 
-  module _ (n : ℕ) (first : ListTaken (drop 4 s) n) where
-    second_at : lists_in (drop 4 s) ≡ on_listed (list_in (drop (4 + n) s)) no_lists (λ js s₂. closed first.names js s₂)
-    second_at = rw (first.is, drop-drop n 4 s)
+  module _ (m : ℕ) (second : ListTaken (drop (4 + n) s) m) where
+    behind : lists_in (drop 4 s) ≡ closed first.names second.names (drop (4 + n + m) s)
+    behind = second_at ∙ rw (second.is, drop-drop m (4 + n) s)
 
-    pub second_bad : list_in (drop (4 + n) s) ≡ not_listed → ListsAt s Bad
-    second_bad e = refused_lists_lem s (sym (second_at ∙ rw e))
+    pub not_one_behind : (4 + n + m ≡ length s - 1 → ⊥) → ListsAt s None
+    not_one_behind h =
+        let other : length (drop (4 + n + m) s) ≡ 1 → ⊥ = simp length-drop (λ e. omega (arith, h, e)) in
+        refused_lists_lem s (sym (behind ∙ not_closed first.names second.names (drop (4 + n + m) s) other)) None refl
 
-    module _ (m : ℕ) (second : ListTaken (drop (4 + n) s) m) where
-      behind : lists_in (drop 4 s) ≡ closed first.names second.names (drop (4 + n + m) s)
-      behind = second_at ∙ rw (second.is, drop-drop m (4 + n) s)
-
-      pub not_one_behind : (4 + n + m ≡ length s - 1 → ⊥) → ListsAt s Bad
-      not_one_behind h =
-          let other : length (drop (4 + n + m) s) ≡ 1 → ⊥ = simp length-drop (λ e. omega (arith, h, e)) in
-          refused_lists_lem s (sym (behind ∙ not_closed first.names second.names (drop (4 + n + m) s) other))
-
-      pub both_lists : 4 + n + m ≡ length s - 1 → ListsAt s (Until (4 + n))
-      both_lists h =
-          let k : 4 + n - 4 ≡ n = omega arith in
-          let last = last_alone s (4 + n + m) (omega (arith, h)) h in
-          let e₁ : names_of (matching_part s (4 + n)) ≡ first.names = rw k first.part in
-          let e₂ : names_of (drop (4 + n) s) ≡ second.names = names_listed (drop (4 + n) s) second.names (drop m (drop (4 + n) s)) second.is in
-          record {
-            same = rw (e₁, e₂) (sym (behind ∙ rw last));
-            counts = λ at u. both_counted at u e₁ e₂;
-          }
-        where
-          both_counted : (at : ℕ) → Until (4 + n) ≡ Until at → names_of (matching_part s (4 + n)) ≡ first.names
-              → names_of (drop (4 + n) s) ≡ second.names → Counts s at
-          both_counted at u e₁ e₂ =
-              let a : at ≡ 4 + n = cc in
-              rw a (record {
-                within = record { first = omega (arith, first.some); second = omega (arith, length-drop (4 + n) s, second.some, second.within) };
-                matching = ap is_empty e₁ ∙ first.count ∙ ap (λ z. eqb z 0) (get_or-drop 4 s 0 0);
-                join = ap is_empty e₂ ∙ second.count ∙ ap (λ z. eqb z 0) (get_or-drop (4 + n) s 0 0 ∙ ap (λ k. get_or s k 0) (add-zero (4 + n)));
-              })
+    pub both_lists : 4 + n + m ≡ length s - 1 → ListsAt s (Some (4 + n))
+    both_lists h =
+        let k : 4 + n - 4 ≡ n = omega arith in
+        let last = last_alone s (4 + n + m) (omega (arith, h)) h in
+        let e₁ : names_of (matching_part s (4 + n)) ≡ first.names = rw k first.part in
+        let e₂ : names_of (drop (4 + n) s) ≡ second.names = names_listed (drop (4 + n) s) second.names (drop m (drop (4 + n) s)) second.is in
+        record {
+          same = rw (e₁, e₂) (sym (behind ∙ rw last));
+          counts = λ at u. both_counted at u e₁ e₂;
+        }
+      where
+        both_counted : (at : ℕ) → Some (4 + n) ≡ Some at → names_of (matching_part s (4 + n)) ≡ first.names
+            → names_of (drop (4 + n) s) ≡ second.names → Counts s at
+        both_counted at u e₁ e₂ =
+            let a : at ≡ 4 + n = cc in
+            rw a (record {
+              within = record { first = omega (arith, first.some); second = omega (arith, length-drop (4 + n) s, second.some, second.within) };
+              matching = ap is_empty e₁ ∙ first.count ∙ ap (λ z. eqb z 0) (get_or-drop 4 s 0 0);
+              join = ap is_empty e₂ ∙ second.count ∙ ap (λ z. eqb z 0) (get_or-drop (4 + n) s 0 0 ∙ ap (λ k. get_or s k 0) (add-zero (4 + n)));
+            })

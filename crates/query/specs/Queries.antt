@@ -1,6 +1,6 @@
 -- The code's query and its answers, as those of the definitions. Assumes nothing.
-use Rattle.std.specs.Prelude.{ℕ, ◌-◌, ◌<◌, ◌≤◌, ◌≡◌, cond, List, [], ◌∷◌, eqb, leb, length, get_or, take, drop}
-use Rattle.model.specs.Limits.{max_allowance}
+use Rattle.std.specs.Prelude.{ℕ, ◌-◌, ◌<◌, ◌≤◌, ◌≡◌, cond, List, [], ◌∷◌, eqb, length, get_or, take, drop}
+use Rattle.std.specs.Prelude.{Option, Some, None, Result, Ok, Err, MatchResult}
 use Rattle.model.specs.Lists.{is_empty}
 use Rattle.model.specs.Edits.{Names}
 use Rattle.model.specs.Query as Model
@@ -8,17 +8,19 @@ use Rattle.labels.specs.Names.{names_of}
 use Rattle.labels.specs.Matchings.{matching_of}
 use Rattle.query.specs.declared.Join.{Join}
 use Rattle.query.specs.declared.Join.TheVariants.{OneToOne, GroupLeft, GroupRight}
+use Rattle.query.specs.declared.UnknownJoin.{UnknownJoin}
 use Rattle.query.specs.declared.Query.{Query}
-use Rattle.query.specs.declared.Request.{Request}
-use Rattle.query.specs.declared.Request.TheVariants.{Asked, BadOperator, Malformed, BadAllowance}
-use Rattle.query.specs.declared.list_ends.ListEnd.{ListEnd}
-use Rattle.query.specs.declared.list_ends.ListEnd.TheVariants.{Until, Bad}
-use Rattle.query.specs.list_ends.Ends.{list_number}
+use Rattle.query.specs.declared.QueryError.{QueryError}
+use Rattle.query.specs.declared.QueryError.TheVariants.{BadOperator, Malformed, BadAllowance}
 
 abbrev pub join_of : Join → Model.Join
 join_of OneToOne = Model.one_to_one
 join_of GroupLeft = Model.group Model.left
 join_of GroupRight = Model.group Model.right
+
+-- 01: join byte (0 one-to-one, 1 group_left, 2 group_right, 3 many-to-many, run as 0); an error has a byte that stands for none
+abbrev pub JoinBy : ℕ → Result Join UnknownJoin → Type 0
+JoinBy b r = MatchResult r (λ j. (b ≤ 3) × (join_of j ≡ Model.join_of b)) (λ e. (3 < b) × (e.0 ≡ b))
 
 -- the lists as parts of the query's bytes; what stands behind the join list is not read as labels
 abbrev pub matching_part : List ℕ → ℕ → List ℕ
@@ -56,21 +58,15 @@ numbered Model.bad_operator = refused 1
 numbered Model.malformed = refused 2
 numbered Model.bad_allowance = refused 13
 
--- the number of the code's answer; 0 where nothing is refused
-abbrev pub request_number : Request → ℕ
-request_number (Asked q) = 0
+-- the number of a refusal
+abbrev pub request_number : QueryError → ℕ
 request_number BadOperator = 1
 request_number Malformed = 2
 request_number BadAllowance = 13
 
-abbrev pub answer_of : List ℕ → Request → Answer
-answer_of s (Asked q) = taken (query_of s q)
-answer_of s BadOperator = refused (request_number BadOperator)
-answer_of s Malformed = refused (request_number Malformed)
-answer_of s BadAllowance = refused (request_number BadAllowance)
-
-abbrev pub allowed_or : Query → Request
-allowed_or q = cond (leb q.allowance max_allowance) (Asked q) BadAllowance
+abbrev pub answer_of : List ℕ → Result Query QueryError → Answer
+answer_of s (Ok q) = taken (query_of s q)
+answer_of s (Err e) = refused (request_number e)
 
 -- both lists have a count byte
 pub record ListsWithin (s : List ℕ) (join_at : ℕ) : Type 0 where
@@ -78,16 +74,9 @@ pub record ListsWithin (s : List ℕ) (join_at : ℕ) : Type 0 where
   pub second : join_at < length s
 
 -- the code answers r where taking the bytes s gives t
-pub record TakenAs (s : List ℕ) (t : Model.TakenQuery) (r : Request) : Type 0 where
+pub record TakenAs (s : List ℕ) (t : Model.TakenQuery) (r : Result Query QueryError) : Type 0 where
   pub answer : answer_of s r ≡ numbered t
-  pub within : (q : Query) → r ≡ Asked q → ListsWithin s q.join_at
-
--- the matching, join and flag bytes are among 01's
-pub record InRange (s : List ℕ) : Type 0 where
-  pub long : 4 ≤ length s
-  pub matching : get_or s 1 0 ≤ 2
-  pub join : get_or s 2 0 ≤ 3
-  pub flags : get_or s 3 0 ≤ 3
+  pub within : (q : Query) → r ≡ Ok q → ListsWithin s q.join_at
 
 -- two lists and one byte behind them, or 01's number
 pub data Lists : Type 0 where
@@ -105,9 +94,9 @@ closed ns js (a ∷ rest) = cond (is_empty rest) (lists ns js a) no_lists
 abbrev pub lists_in : List ℕ → Lists
 lists_in s = Model.on_listed (Model.list_in s) no_lists (λ ns s₁. Model.on_listed (Model.list_in s₁) no_lists (λ js s₂. closed ns js s₂))
 
-abbrev pub lists_of : List ℕ → ListEnd → Lists
-lists_of s (Until at) = lists (names_of (matching_part s at)) (names_of (join_part s at)) (get_or s (length s - 1) 0)
-lists_of s Bad = refused_lists (list_number Bad)
+abbrev pub lists_of : List ℕ → Option ℕ → Lists
+lists_of s (Some at) = lists (names_of (matching_part s at)) (names_of (join_part s at)) (get_or s (length s - 1) 0)
+lists_of s None = no_lists
 
 -- a list is empty where its count byte is 0
 pub record Counts (s : List ℕ) (join_at : ℕ) : Type 0 where
@@ -115,6 +104,7 @@ pub record Counts (s : List ℕ) (join_at : ℕ) : Type 0 where
   pub matching : is_empty (names_of (matching_part s join_at)) ≡ eqb (get_or s 4 0) 0
   pub join : is_empty (names_of (join_part s join_at)) ≡ eqb (get_or s join_at 0) 0
 
-pub record ListsAt (s : List ℕ) (r : ListEnd) : Type 0 where
+-- where the join list stands, if the bytes from 4 on are two lists and one byte more
+pub record ListsAt (s : List ℕ) (r : Option ℕ) : Type 0 where
   pub same : lists_of s r ≡ lists_in (drop 4 s)
-  pub counts : (at : ℕ) → r ≡ Until at → Counts s at
+  pub counts : (at : ℕ) → r ≡ Some at → Counts s at

@@ -1,12 +1,12 @@
 // Requests for an aggregate, taken from bytes.
-ghost use Rattle.std.specs.Prelude.{◌≡◌, drop};
+ghost use Rattle.std.specs.Prelude.{◌≡◌};
 ghost use Rattle.model.specs.Aggregation as Model;
-ghost use Rattle.query.specs.aggregations.Requests.{aggregate_of, grouping_of, is_list, TakenAs};
+ghost use Rattle.query.specs.declared.aggregations.AggregationError.TheVariants.{BadAggregate, Malformed};
+ghost use Rattle.query.specs.aggregations.Requests.{AggregateBy, GroupingBy, is_list, TakenAs};
 
 use crate::list_ends;
-use crate::list_ends::ListEnd;
 
-#[derive(Clone, Copy)]
+#[derive(Clone, Copy, Debug, PartialEq, Eq)]
 pub enum Aggregate {
     Sum,
     Min,
@@ -15,10 +15,51 @@ pub enum Aggregate {
     Avg,
 }
 
-#[derive(Clone, Copy)]
+// A byte that stands for no aggregate.
+#[derive(Clone, Copy, Debug, PartialEq, Eq)]
+pub struct UnknownAggregate(pub u8);
+
+// An aggregate by the byte of a request that stands for it.
+impl TryFrom<u8> for Aggregate {
+    type Error = UnknownAggregate;
+
+    ghost try_from_gives = { AggregateBy };
+
+    fn try_from(b: u8) -> Result<Self, UnknownAggregate> {
+        match b {
+            0 => Ok(Aggregate::Sum),
+            1 => Ok(Aggregate::Min),
+            2 => Ok(Aggregate::Max),
+            3 => Ok(Aggregate::Count),
+            4 => Ok(Aggregate::Avg),
+            _ => Err(UnknownAggregate(b)),
+        }
+    }
+}
+
+#[derive(Clone, Copy, Debug, PartialEq, Eq)]
 pub enum Grouping {
     By,
     Without,
+}
+
+// A byte that stands for no grouping.
+#[derive(Clone, Copy, Debug, PartialEq, Eq)]
+pub struct UnknownGrouping(pub u8);
+
+// A grouping by the byte of a request that stands for it.
+impl TryFrom<u8> for Grouping {
+    type Error = UnknownGrouping;
+
+    ghost try_from_gives = { GroupingBy };
+
+    fn try_from(b: u8) -> Result<Self, UnknownGrouping> {
+        match b {
+            0 => Ok(Grouping::By),
+            1 => Ok(Grouping::Without),
+            _ => Err(UnknownGrouping(b)),
+        }
+    }
 }
 
 // A request for an aggregate, by value. Its list is the request's bytes from 2 on.
@@ -28,31 +69,28 @@ pub struct Aggregation {
     pub grouping: Grouping,
 }
 
-#[derive(Clone, Copy)]
-pub enum AggregationRequest {
-    Asked(Aggregation),
+// Why a request for an aggregate is refused.
+#[derive(Clone, Copy, Debug, PartialEq, Eq)]
+pub enum AggregationError {
     BadAggregate,
     Malformed,
 }
 
-fn aggregate_of(b: u8) -> Aggregate
-    ensures { aggregate_of result ≡ Model.aggregate_of b }
-{
-    match b {
-        0 => Aggregate::Sum,
-        1 => Aggregate::Min,
-        2 => Aggregate::Max,
-        3 => Aggregate::Count,
-        _ => Aggregate::Avg,
+// A byte that stands for no aggregate is refused as a bad aggregate.
+impl From<UnknownAggregate> for AggregationError {
+    ghost from_gives = { λ _ e. e ≡ BadAggregate };
+
+    fn from(_: UnknownAggregate) -> Self {
+        AggregationError::BadAggregate
     }
 }
 
-fn grouping_of(b: u8) -> Grouping
-    ensures { grouping_of result ≡ Model.grouping_of b }
-{
-    match b {
-        0 => Grouping::By,
-        _ => Grouping::Without,
+// A byte that stands for no grouping makes a request malformed.
+impl From<UnknownGrouping> for AggregationError {
+    ghost from_gives = { λ _ e. e ≡ Malformed };
+
+    fn from(_: UnknownGrouping) -> Self {
+        AggregationError::Malformed
     }
 }
 
@@ -60,43 +98,25 @@ fn grouping_of(b: u8) -> Grouping
 fn is_list(s: &[u8]) -> bool
     ensures { result ≡ is_list s.now }
 {
-    match list_ends::list_end(s) {
-        ListEnd::Until(n) => n == s.len(),
-        ListEnd::Bad => false,
-    }
+    list_ends::list_end(s) == Some(s.len())
 }
 
-// The request behind an aggregate byte that is among the five.
-fn take_grouping(s: &[u8], aggregate: Aggregate) -> AggregationRequest
-    ensures { TakenAs s.now (Model.with_grouping (aggregate_of aggregate) (drop 1 s.now)) result }
-{
-    if s.len() < 2 {
-        return AggregationRequest::Malformed;
-    }
-    let g = s[1];
-    if 1 < g {
-        return AggregationRequest::Malformed;
-    }
-    if is_list(&s[2..]) {
-        let grouping = grouping_of(g);
-        AggregationRequest::Asked(Aggregation {
-            aggregate,
-            grouping,
-        })
-    } else {
-        AggregationRequest::Malformed
-    }
-}
-
-pub fn take_aggregation(s: &[u8]) -> AggregationRequest
+pub fn take_aggregation(s: &[u8]) -> Result<Aggregation, AggregationError>
     ensures { TakenAs s.now (Model.take_aggregation s.now) result }
 {
-    if s.len() == 0 {
-        return AggregationRequest::Malformed;
+    let [a, ..] = s else {
+        return Err(AggregationError::Malformed);
+    };
+    let aggregate = Aggregate::try_from(*a)?;
+    let [_, g, list @ ..] = s else {
+        return Err(AggregationError::Malformed);
+    };
+    let grouping = Grouping::try_from(*g)?;
+    if !is_list(list) {
+        return Err(AggregationError::Malformed);
     }
-    let a = s[0];
-    if 4 < a {
-        return AggregationRequest::BadAggregate;
-    }
-    take_grouping(s, aggregate_of(a))
+    Ok(Aggregation {
+        aggregate,
+        grouping,
+    })
 }

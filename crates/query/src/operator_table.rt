@@ -1,12 +1,12 @@
 // The constant table that a query's operator byte indexes.
 ghost use Rattle.std.specs.Prelude.{◌≡◌};
-ghost use Rattle.query.specs.operator_table.Table.{table_row};
+ghost use Rattle.std.specs.Option.{option_map};
+ghost use Rattle.query.specs.operator_table.Table.{said, table_row};
 
-// A row of the table. The spelling is the first `length` bytes; zeros stand behind it.
+// A row of the table.
 #[derive(Clone, Copy)]
 pub(crate) struct OperatorRow {
-    pub spelling: [u8; 7],
-    pub length: usize,
+    pub spelling: &'static str,
     pub comparison: bool,
     pub logical: bool,
     pub carried: bool,
@@ -14,152 +14,124 @@ pub(crate) struct OperatorRow {
 
 const OPERATORS: [OperatorRow; 19] = [
     OperatorRow {
-        spelling: [43, 0, 0, 0, 0, 0, 0],
-        length: 1,
+        spelling: "+",
         comparison: false,
         logical: false,
         carried: true,
     },
     OperatorRow {
-        spelling: [97, 110, 100, 0, 0, 0, 0],
-        length: 3,
+        spelling: "and",
         comparison: false,
         logical: true,
         carried: true,
     },
     OperatorRow {
-        spelling: [97, 116, 97, 110, 50, 0, 0],
-        length: 5,
+        spelling: "atan2",
         comparison: false,
         logical: false,
         carried: false,
     },
     OperatorRow {
-        spelling: [100, 101, 102, 97, 117, 108, 116],
-        length: 7,
+        spelling: "default",
         comparison: false,
         logical: true,
         carried: true,
     },
     OperatorRow {
-        spelling: [47, 0, 0, 0, 0, 0, 0],
-        length: 1,
+        spelling: "/",
         comparison: false,
         logical: false,
         carried: true,
     },
     OperatorRow {
-        spelling: [61, 61, 0, 0, 0, 0, 0],
-        length: 2,
+        spelling: "==",
         comparison: true,
         logical: false,
         carried: true,
     },
     OperatorRow {
-        spelling: [37, 0, 0, 0, 0, 0, 0],
-        length: 1,
+        spelling: "%",
         comparison: false,
         logical: false,
         carried: true,
     },
     OperatorRow {
-        spelling: [42, 0, 0, 0, 0, 0, 0],
-        length: 1,
+        spelling: "*",
         comparison: false,
         logical: false,
         carried: true,
     },
     OperatorRow {
-        spelling: [94, 0, 0, 0, 0, 0, 0],
-        length: 1,
+        spelling: "^",
         comparison: false,
         logical: false,
         carried: false,
     },
     OperatorRow {
-        spelling: [45, 0, 0, 0, 0, 0, 0],
-        length: 1,
+        spelling: "-",
         comparison: false,
         logical: false,
         carried: true,
     },
     OperatorRow {
-        spelling: [62, 0, 0, 0, 0, 0, 0],
-        length: 1,
+        spelling: ">",
         comparison: true,
         logical: false,
         carried: true,
     },
     OperatorRow {
-        spelling: [62, 61, 0, 0, 0, 0, 0],
-        length: 2,
+        spelling: ">=",
         comparison: true,
         logical: false,
         carried: true,
     },
     OperatorRow {
-        spelling: [105, 102, 0, 0, 0, 0, 0],
-        length: 2,
+        spelling: "if",
         comparison: false,
         logical: true,
         carried: true,
     },
     OperatorRow {
-        spelling: [105, 102, 110, 111, 116, 0, 0],
-        length: 5,
+        spelling: "ifnot",
         comparison: false,
         logical: true,
         carried: true,
     },
     OperatorRow {
-        spelling: [60, 0, 0, 0, 0, 0, 0],
-        length: 1,
+        spelling: "<",
         comparison: true,
         logical: false,
         carried: true,
     },
     OperatorRow {
-        spelling: [60, 61, 0, 0, 0, 0, 0],
-        length: 2,
+        spelling: "<=",
         comparison: true,
         logical: false,
         carried: true,
     },
     OperatorRow {
-        spelling: [33, 61, 0, 0, 0, 0, 0],
-        length: 2,
+        spelling: "!=",
         comparison: true,
         logical: false,
         carried: true,
     },
     OperatorRow {
-        spelling: [111, 114, 0, 0, 0, 0, 0],
-        length: 2,
+        spelling: "or",
         comparison: false,
         logical: true,
         carried: true,
     },
     OperatorRow {
-        spelling: [117, 110, 108, 101, 115, 115, 0],
-        length: 6,
+        spelling: "unless",
         comparison: false,
         logical: true,
         carried: true,
     },
 ];
 
-const UNLISTED: OperatorRow = OperatorRow {
-    spelling: [0, 0, 0, 0, 0, 0, 0],
-    length: 0,
-    comparison: false,
-    logical: false,
-    carried: false,
-};
-
-// The table's row for an operator byte, and a row that claims nothing for a byte above 18.
-pub(crate) fn operator_row(b: u8) -> OperatorRow
-    ensures { result ≡ table_row b }
+// The table's row for an operator byte; a byte above 18 has none.
+pub(crate) fn operator_row(b: u8) -> Option<OperatorRow>
+    ensures { option_map said result ≡ table_row b }
 {
-    let i = b as usize;
-    if i < 19 { OPERATORS[i] } else { UNLISTED }
+    OPERATORS.get(usize::from(b)).copied()
 }

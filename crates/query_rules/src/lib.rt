@@ -10,16 +10,5 @@ use query::Query;
 pub fn should_reset_metric_group(q: Query) -> bool
     ensures { result ≡ resets q.operator q.keep_names q.as_bool }
 {
-    let operator = q.operator;
-    if q.keep_names {
-        return false;
-    }
-    if operator.is_logical_op() {
-        return false;
-    }
-    if operator.is_comparison() {
-        q.as_bool
-    } else {
-        true
-    }
+    !q.keep_names && !q.operator.is_logical_op() && (q.as_bool || !q.operator.is_comparison())
 }

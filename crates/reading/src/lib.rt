@@ -42,7 +42,7 @@ pub fn gaps(left: u64, right: u64) -> u64
 }
 
 // One of two values. Where both are at hand already, nothing waits for the choice.
-pub fn pick(c: bool, x: u64, y: u64) -> u64
+pub fn pick<T: Copy>(c: bool, x: T, y: T) -> T
     ensures { result ≡ cond c x y }
 {
     if c { x } else { y }

@@ -6,7 +6,7 @@ ghost use Rattle.model.specs.Record.{encode_field};
 ghost use Rattle.record_tags.specs.Lenient.{labels_of};
 ghost use Rattle.writing.specs.Written.{Put};
 
-use fields::Place;
+use fields::Span;
 
 // The bytes of a record's name, with their length, or of an empty one.
 pub fn name_size(rec: &[u8], keep: bool) -> usize
@@ -14,8 +14,8 @@ pub fn name_size(rec: &[u8], keep: bool) -> usize
 {
     if keep {
         match fields::field_at(rec, 0) {
-            Place::At { start: _, end } => end,
-            Place::Short => 1,
+            Some(Span { start: _, end }) => end,
+            None => 1,
         }
     } else {
         1
@@ -29,8 +29,8 @@ pub fn put_name(out: &mut [u8], at: usize, rec: &[u8], keep: bool) -> usize
 {
     if keep {
         match fields::field_at(rec, 0) {
-            Place::At { start: _, end } => writing::put_bytes(out, at, &rec[..end]),
-            Place::Short => writing::put_byte(out, at, 0),
+            Some(Span { start: _, end }) => writing::put_bytes(out, at, &rec[..end]),
+            None => writing::put_byte(out, at, 0),
         }
     } else {
         writing::put_byte(out, at, 0)

@@ -7,14 +7,19 @@ use Rattle.model.specs.Record.{read_field, on_field, Decoded, decoded, cut, bad_
 use Rattle.model.proofs.Laws.Record.{read_field_lem, encode_split, decode_is}
 use Rattle.labels.specs.Names.{front}
 use Rattle.label_records.specs.Records.{behind, record_answer, decoded_answer}
-use Rattle.label_records.specs.declared.Record.{Record}
-use Rattle.label_records.specs.declared.Record.TheVariants.{Ok}
+use Rattle.std.specs.declared.result.Result.{Result}
+use Rattle.std.specs.declared.result.Result.TheVariants.{Ok}
+use Rattle.label_records.specs.declared.RecordFault.{RecordFault}
 
 -- the first n tags; a tag that is cut ends them
 unfoldable pub tags_up_to : ℕ → List ℕ → List Tag
 tags_up_to zero s = []
 tags_up_to (suc n) s =
     on_field (read_field s) [] (λ k s₁. on_field (read_field s₁) [] (λ v s₂. record { key = k; value = v } ∷ tags_up_to n s₂))
+
+pub no_tags_up_to : (s : List ℕ) → tags_up_to 0 s ≡ []
+unfolding tags_up_to
+no_tags_up_to s = refl
 
 -- the tags behind their count
 abbrev pub tags_counted : List ℕ → List Tag
@@ -83,7 +88,7 @@ record_here s at next l rest e hn =
       within = omega (arith, hn);
     }
 
-pub record_found : (s : List ℕ) (at next : ℕ) (x : Record)
+pub record_found : (s : List ℕ) (at next : ℕ) (x : Result ℕ RecordFault)
     → record_answer x ≡ decoded_answer (length s) (decode (drop at s)) → x ≡ Ok next → RecordAt s at next
 record_found s at next x hx ex = go (decode (drop at s)) refl (rw ex at hx)
   where

@@ -1,4 +1,5 @@
-// The code of an answer row of a join: a many-side place and a one-side place as one number, packed and read off it.
+// The code of an answer row of a join: a many-side place and a one-side place as one number, packed and read off it. A
+// number, since plans list the codes of rows in lent arrays of numbers.
 #![tactic(auto)]
 
 ghost use Rattle.std.specs.Prelude.{◌≡◌, ◌≤◌};

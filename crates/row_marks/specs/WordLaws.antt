@@ -1,5 +1,6 @@
 -- Words in which no bit is set, and rows of words. Assumes nothing.
-use Rattle.std.specs.Prelude.{ℕ, zero, suc, ◌+◌, ◌-◌, ◌/◌, ◌%◌, ◌≤◌, ◌<◌, ◌≡◌, refl, Bool, true, false, ◌&&◌, List, [], ◌∷◌, eqb, ltb, length, get_or, take, drop}
+use Rattle.std.specs.Prelude.{ℕ, zero, suc, ◌+◌, ◌-◌, ◌/◌, ◌%◌, ◌≤◌, ◌<◌, ◌≡◌, refl}
+use Rattle.std.specs.Prelude.{Bool, true, false, ◌&&◌, List, [], ◌∷◌, eqb, ltb, length, get_or, take, drop}
 use Rattle.std.proofs.Common.{sym, ap, ◌∙◌, arith, length-take, length-drop, get_or-take, get_or-drop, eqb-true, lt-ltb, ltb-true, ltb-false}
 use Rattle.model.specs.Lists.{cases}
 use Rattle.side_parts.specs.Sides.{row_at}
@@ -12,7 +13,7 @@ both_true : (a b : Bool) → (a && b) ≡ true → (a ≡ true) × (b ≡ true)
 both_true true b h = (refl, h)
 both_true false b h = absurd (let z : ◌≡◌ {A = ℕ} 0 1 = cc in omega arith)
 
-unmarked_word : (words : List ℕ) (i : ℕ) → unmarked words ≡ true → get_or words i 0 ≡ 0
+pub unmarked_word : (words : List ℕ) (i : ℕ) → unmarked words ≡ true → get_or words i 0 ≡ 0
 unfolding unmarked
 unmarked_word [] i h = refl
 unmarked_word (x ∷ words) zero h = eqb-true x 0 (both_true (eqb x 0) (unmarked words) h).0

@@ -1,1 +1,3 @@
 pub mod Dispatch
+pub mod Floats
+pub mod Zipping

@@ -1,1 +1,1 @@
-pub mod Nothing
+pub mod Floats

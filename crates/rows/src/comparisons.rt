@@ -3,6 +3,7 @@
 ghost use Rattle.std.specs.Prelude.{◌≡◌, cond};
 ghost use Rattle.operator.specs.Kinds.{equal, unequal, less, at_most, greater, at_least};
 ghost use Rattle.model.specs.Reading.{missing, no_reading, one_or_zero, compared};
+ghost use Rattle.rows.specs.Floats.{ComparedBy};
 
 fn one_or_zero(b: bool) -> u64
     ensures { result ≡ one_or_zero b }
@@ -31,13 +32,25 @@ fn neq_gap(left: u64, right: u64, as_bool: bool) -> u64
     reading::choose(reading::gap(right), reading::MISSING, left)
 }
 
-pub(crate) fn compare_eq(left: u64, right: u64, as_bool: bool) -> u64
-    ensures { result ≡ compared as_bool equal left right }
+// What a comparison that is false with a gap gives, by what it says of the floats.
+fn compared<F: Fn(f64, f64) -> bool>(holds: F, left: u64, right: u64, as_bool: bool) -> u64
+    requires { F.IsAlwaysCallable holds }
+    ensures { ComparedBy (F.post holds) as_bool left right result }
 {
     if reading::gaps(left, right) > 0 {
         return reading::MISSING;
     }
-    to_comparison_value(f64::from_bits(left) == f64::from_bits(right), left, as_bool)
+    to_comparison_value(
+        holds(f64::from_bits(left), f64::from_bits(right)),
+        left,
+        as_bool,
+    )
+}
+
+pub(crate) fn compare_eq(left: u64, right: u64, as_bool: bool) -> u64
+    ensures { result ≡ compared as_bool equal left right }
+{
+    compared(|x, y| x == y, left, right, as_bool)
 }
 
 pub(crate) fn compare_neq(left: u64, right: u64, as_bool: bool) -> u64
@@ -52,35 +65,23 @@ pub(crate) fn compare_neq(left: u64, right: u64, as_bool: bool) -> u64
 pub(crate) fn compare_lt(left: u64, right: u64, as_bool: bool) -> u64
     ensures { result ≡ compared as_bool less left right }
 {
-    if reading::gaps(left, right) > 0 {
-        return reading::MISSING;
-    }
-    to_comparison_value(f64::from_bits(left) < f64::from_bits(right), left, as_bool)
+    compared(|x, y| x < y, left, right, as_bool)
 }
 
 pub(crate) fn compare_lte(left: u64, right: u64, as_bool: bool) -> u64
     ensures { result ≡ compared as_bool at_most left right }
 {
-    if reading::gaps(left, right) > 0 {
-        return reading::MISSING;
-    }
-    to_comparison_value(f64::from_bits(left) <= f64::from_bits(right), left, as_bool)
+    compared(|x, y| x <= y, left, right, as_bool)
 }
 
 pub(crate) fn compare_gt(left: u64, right: u64, as_bool: bool) -> u64
     ensures { result ≡ compared as_bool greater left right }
 {
-    if reading::gaps(left, right) > 0 {
-        return reading::MISSING;
-    }
-    to_comparison_value(f64::from_bits(right) < f64::from_bits(left), left, as_bool)
+    compared(|x, y| y < x, left, right, as_bool)
 }
 
 pub(crate) fn compare_gte(left: u64, right: u64, as_bool: bool) -> u64
     ensures { result ≡ compared as_bool at_least left right }
 {
-    if reading::gaps(left, right) > 0 {
-        return reading::MISSING;
-    }
-    to_comparison_value(f64::from_bits(right) <= f64::from_bits(left), left, as_bool)
+    compared(|x, y| y <= x, left, right, as_bool)
 }

@@ -34,9 +34,10 @@ empty_count [] = refl
 empty_count (k ∷ ks) = ne_eqb (suc (length ks)) 0 (λ e. omega (arith, e))
 
 module _ (op : Operator) (s : Sides) (held : BothHeld s) (scalar : Bool) (e : scalar ≡ is_scalar (side_labels s.right))
-    (w : Code.SetWork) (work : meant_work w ≡ work_by (kind_of op) scalar (eqb (length s.left.keys) 0)) where
+    (none : Bool) (n : none ≡ eqb (length s.left.keys) 0)
+    (w : Code.SetWork) (work : meant_work w ≡ work_by (kind_of op) scalar none) where
   work_is : meant_work w ≡ work_for (kind_of op) s
-  work_is = work ∙ rw (e, empty_count s.left.keys)
+  work_is = work ∙ rw (e, n, empty_count s.left.keys)
 
   pub work_held : SetHeld w.falls (rows_only s)
   work_held =

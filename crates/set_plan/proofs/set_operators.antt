@@ -1,2 +1,1 @@
 pub mod Scalars
-pub mod Works

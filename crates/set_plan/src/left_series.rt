@@ -13,10 +13,8 @@ use set_series::SetRule;
 pub(crate) fn met_ends(falls: bool, count: usize, e: usize) -> usize
     ensures { result ≡ fallen falls count e }
 {
-    if end_codes::side_first(e) == count {
-        if falls {
-            return 0;
-        }
+    if falls && end_codes::side_first(e) == count {
+        return 0;
     }
     e
 }
@@ -25,22 +23,14 @@ pub(crate) fn met_ends(falls: bool, count: usize, e: usize) -> usize
 fn needs_match(rule: SetRule) -> bool
     ensures { result ≡ needs_match (meant rule) }
 {
-    match rule {
-        SetRule::WhereFound => true,
-        SetRule::WhereNone => false,
-        SetRule::Filled => false,
-    }
+    matches!(rule, SetRule::WhereFound)
 }
 
 // Whether a rule drops a left series that is left without readings.
 fn drops_empty(rule: SetRule) -> bool
     ensures { result ≡ drops_empty (meant rule) }
 {
-    match rule {
-        SetRule::WhereFound => true,
-        SetRule::WhereNone => true,
-        SetRule::Filled => false,
-    }
+    !matches!(rule, SetRule::Filled)
 }
 
 // Whether a left series that meets the listed right ones is in the answer.
@@ -49,13 +39,10 @@ fn answers_with(rule: SetRule, left: &[u64], rows: &[u64], places: &[usize]) -> 
     ensures { result ≡ left_answers (meant rule) (length left.now) rows.now
         places.now left.now }
 {
-    if places.len() == 0 {
+    if places.is_empty() {
         return !needs_match(rule);
     }
-    if drops_empty(rule) {
-        return set_series::leaves(rule, left, rows, places);
-    }
-    true
+    !drops_empty(rule) || set_series::leaves(rule, left, rows, places)
 }
 
 // Whether a left series is in the answer, by the ends of what it meets; the places are listed in a part that is lent.

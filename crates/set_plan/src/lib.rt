@@ -29,8 +29,7 @@ pub fn plan_set(
     ensures { let s = sides (shape_of shape) labels.entry at.entry keys.entry rows.entry in
         NotedAll (set_codes (work_for (kind_of op) s) s) 0 codes.old codes.new result }
 {
-    let left_keys = keys[0];
     let scalar = set_operators::is_scalar(labels[1], at[1]);
-    let w = set_operators::set_work(op, scalar, left_keys.len() == 0);
+    let w = set_operators::set_work(op, scalar, keys[0].is_empty());
     set_listing::list_rows(w, shape.points, keys, rows, codes)
 }

@@ -29,15 +29,12 @@ fn list_left(
 {
     let left_keys = keys[0];
     let right_keys = keys[1];
-    let rule = w.rule;
-    let mut n: usize = 0;
-    let mut i: usize = 0;
-    while i < left_keys.len() {
+    let mut n = 0;
+    for i in 0..left_keys.len() {
         let e = left_series::met_ends(w.falls, right_keys.len(), ends[i]);
         let left = side_parts::row(rows[0], p, i);
-        let here = left_series::left_answers(rule, left, right_keys, rows[1], e, places);
+        let here = left_series::left_answers(w.rule, left, right_keys, rows[1], e, places);
         n = index_lists::note_if(here, end_codes::both_code(i, e), n, list);
-        i += 1;
     }
     n
 }
@@ -58,11 +55,9 @@ fn list_right(
         list.old list.new result }
 {
     let mut r = n;
-    let mut j: usize = 0;
-    while j < keys.len() {
+    for j in 0..keys.len() {
         let here = end_codes::side_first(ends[j]) == left_keys.len();
         r = index_lists::note_if(here, end_codes::both_code(left_keys.len() + j, 0), r, list);
-        j += 1;
     }
     r
 }

@@ -1,4 +1,4 @@
-// The set operators, by what they differ in.
+// The set operators, by what they differ in, each under its name in the Rust.
 ghost use Rattle.std.specs.Prelude.{◌≡◌, false, true};
 ghost use Rattle.operator.specs.Kinds.{where_found, where_none, filled, kind_of};
 ghost use Rattle.plan.specs.Sets.{set_work, is_scalar, work_by};
@@ -105,8 +105,5 @@ pub(crate) fn is_scalar(array: &[u8], at: &[usize]) -> bool
     requires formed { Formed array.now at.now }
     ensures { result ≡ is_scalar (labels_in array.now at.now) }
 {
-    if at.len() != 2 {
-        return false;
-    }
-    side_parts::record(array, at, 0).len() == 2
+    at.len() == 2 && side_parts::record(array, at, 0).len() == 2
 }

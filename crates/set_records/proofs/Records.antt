@@ -8,17 +8,13 @@ use lib.Seq.{get_or-append-add}
 use Rattle.model.specs.Limits.{max_label_bytes}
 use Rattle.model.specs.Labels.{Labels}
 use Rattle.model.specs.Record.{encode}
-use Rattle.kept_labels.specs.declared.Size.{Size}
 use Rattle.record_tags.specs.Lenient.{labels_of}
-use Rattle.writing.specs.Written.{Put}
 use Rattle.plan.specs.Pairs.{no_labels}
 use Rattle.plan.specs.Sets.{set_labels}
 use Rattle.side_parts.specs.Sides.{record_at}
 use Rattle.side_parts.specs.SideLaws.{labels_at, labels_count, record_within}
 use Rattle.side_parts.specs.Lent.{Side, Sides, side_labels, RecordsFormed, BothFormed, record_count}
-use Rattle.answers.specs.Tallies.{SizedRecord}
-use Rattle.end_codes.specs.Codes.{left_last}
-use Rattle.set_records.specs.Records.{coded_set_labels, RowRecord}
+use Rattle.set_records.specs.Records.{RowRecord}
 
 -- the record of a place of one side
 
@@ -63,23 +59,3 @@ module _ (s : Sides) (both : BothFormed s) (x : ℕ) (rec : List ℕ) where
         (sym (get_or-append-add (side_labels s.left) (side_labels s.right) behind no_labels) ∙ ap (set_labels s) n)
         (place_whole s.right both.right behind rec e l)
         (place_short s.right both.right behind rec e)
-
--- of a code
-
-module _ (s : Sides) (c x : ℕ) (e : x ≡ left_last c) (rec : List ℕ) (row : RowRecord s x rec) where
-  pub row_whole : rec ≡ encode (labels_of rec)
-  row_whole = row.bytes ∙ ap encode (sym row.labels)
-
-  pub row_short : length rec ≤ max_label_bytes
-  row_short = row.short
-
-  pub row_sized : (z : Size) → SizedRecord (labels_of rec) z → SizedRecord (coded_set_labels s c) z
-  row_sized z h = rw (← e, ← row.labels) h
-
-  pub row_room : (o : ℕ) (out : List ℕ) → o + length (encode (coded_set_labels s c)) ≤ length out
-      → o + length rec ≤ length out
-  row_room o out h = rw (row.bytes, e) h
-
-  pub row_put : (before after : List ℕ) (o r : ℕ) → Put before o rec after r
-      → Put before o (encode (coded_set_labels s c)) after r
-  row_put before after o r h = rw (← e, ← row.bytes) h

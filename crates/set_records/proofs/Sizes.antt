@@ -9,9 +9,10 @@ use borrow.Author.Tests.{lt-ltb, le-leb}
 use Rattle.model.specs.Limits.{max_label_bytes}
 use Rattle.model.specs.Labels.{Labels}
 use Rattle.model.specs.Record.{encode_field, encode_tags, encode}
-use Rattle.fields.specs.declared.Place.{Place}
-use Rattle.fields.specs.declared.Place.TheVariants.{At, Short}
-use Rattle.fields.specs.Fields.{field_at}
+use Rattle.std.specs.Prelude.{Some, None}
+use Rattle.std.specs.declared.option.Option.{Option}
+use Rattle.fields.specs.declared.Span.{Span}
+use Rattle.fields.specs.Fields.{some_span, field_at}
 use Rattle.kept_labels.specs.declared.Size.{Size}
 use Rattle.kept_labels.proofs.Sizes.{length-labels}
 use Rattle.answers.specs.Tallies.{SizedRecord}
@@ -30,27 +31,31 @@ module _ (rec : List ℕ) (l : Labels) (e : rec ≡ encode l) where
   unfolding encode
   size_count = rw e (get_or-append_seam (encode_field l.name) (length l.tags) (encode_tags l.tags) 0)
 
-  size_field : field_at rec 0 ≡ At 1 (1 + length l.name)
+  size_field : field_at rec 0 ≡ some_span 1 (1 + length l.name)
   size_field =
       rw (lt-ltb 0 (length rec) (omega (arith, size_parts)), size_name)
       (rw (le-leb (length l.name) (length rec - (0 + 1)) (omega (arith, size_parts))))
 
-  module _ (place : Place) (told : place ≡ field_at rec 0) where
-    pub size_end : (start end : ℕ) → place ≡ At start end → end ≡ 1 + length l.name
-    size_end start end h = let z : At start end ≡ At 1 (1 + length l.name) = sym h ∙ told ∙ size_field in cc
+  module _ (place : Option Span) (told : place ≡ field_at rec 0) where
+    module _ (x : Span) (h : place ≡ Some x) where
+      pub size_end : x.end ≡ 1 + length l.name
+      size_end =
+          let z : Some x ≡ some_span 1 (1 + length l.name) = sym h ∙ told ∙ size_field in
+          let k : x ≡ record { start = 1; end = 1 + length l.name } = cc in
+          ap (λ (y : Span). y.end) k
 
-    pub size_inside : (start end : ℕ) → place ≡ At start end → end < length rec
-    size_inside start end h = omega (arith, size_end start end h, size_parts)
+      pub size_inside : x.end < length rec
+      size_inside = omega (arith, size_end, size_parts)
 
-    pub size_tags : (start end : ℕ) → place ≡ At start end → get_or rec end 0 ≡ length l.tags
-    size_tags start end h = let k : end ≡ suc (length l.name) = omega (arith, size_end start end h) in rw k size_count
+      pub size_tags : get_or rec x.end 0 ≡ length l.tags
+      size_tags = let k : x.end ≡ suc (length l.name) = omega (arith, size_end) in rw k size_count
 
-    pub size_is : (start end : ℕ) → place ≡ At start end → length rec ≤ max_label_bytes
-        → SizedRecord l (record { tags = get_or rec end 0; bytes = length rec })
-    size_is start end h k = record { sized = record { tags = size_tags start end h; bytes = ap length e }; small = omega arith }
+      pub size_is : length rec ≤ max_label_bytes → (t : ℕ) → t ≡ get_or rec x.end 0
+          → SizedRecord l (record { tags = t; bytes = length rec })
+      size_is k t h = record { sized = record { tags = h ∙ size_tags; bytes = ap length e }; small = omega arith }
 
-    pub size_never : place ≡ Short → ⊥
-    size_never h = let z : ◌≡◌ {A = ℕ} 0 1 = cc (size_field) in omega arith
+    pub size_never : place ≡ None → ⊥
+    size_never h = grind (arith, size_field)
 
-    pub size_short : (z : Size) → place ≡ Short → SizedRecord l z
+    pub size_short : (z : Size) → place ≡ None → SizedRecord l z
     size_short z h = absurd (size_never h)

@@ -10,7 +10,7 @@ ghost use Rattle.side_parts.specs.Lent.{labelled, BothFormed, record_count};
 ghost use Rattle.answers.specs.Tallies.{SizedRecord};
 ghost use Rattle.set_records.specs.Records.{RecordCode, coded_set_labels, RowRecord};
 
-use fields::Place;
+use fields::Span;
 use kept_labels::Size;
 
 // The record of a row: of a left place, or of a right one counted behind the left ones.
@@ -34,11 +34,11 @@ fn record_size(rec: &[u8]) -> Size
     ensures { SizedRecord (labels_of rec.now) result }
 {
     match fields::field_at(rec, 0) {
-        Place::At { start: _, end } => Size {
-            tags: rec[end] as usize,
+        Some(Span { end, .. }) => Size {
+            tags: usize::from(rec[end]),
             bytes: rec.len(),
         },
-        Place::Short => Size { tags: 0, bytes: 0 },
+        None => Size { tags: 0, bytes: 0 },
     }
 }
 

@@ -1,6 +1,5 @@
 // The row of a left series under a set rule, by the right series that it meets: several, one, or none.
-ghost use Rattle.std.specs.Prelude.{◌≡◌, ◌≤◌, length};
-ghost use Rattle.operator.specs.Kinds.{where_found, where_none, filled};
+ghost use Rattle.std.specs.Prelude.{◌≡◌, ◌<◌, ◌≤◌, ℕ, length, slice_index, EachIndex};
 ghost use Rattle.model.specs.Row.{zip_with};
 ghost use Rattle.plan.specs.Sets.{set_row, left_row};
 ghost use Rattle.side_parts.specs.Lent.{RowsHeld};
@@ -8,53 +7,17 @@ ghost use Rattle.index_lists.specs.Places.{Within};
 ghost use Rattle.set_series.specs.set_points.Points.{meant, on_reading};
 ghost use Rattle.set_series.specs.left_rows.Rows.{LeftRowPut};
 
-use crate::set_points::SetRule;
-use crate::{binaryop, set_points, set_rows};
+use crate::binaryop::{op_default, op_if, op_if_not};
+use crate::set_points::{SetRule, filled_point, first_reading};
 
-// The left row where some listed series has a reading.
-fn add_right_nans_to_left(left: &[u64], rows: &[u64], places: &[usize], out: &mut [u64])
+// Writes what f gives of each point and the left reading there.
+fn put_points<F: Fn(usize, u64) -> u64>(f: F, left: &[u64], out: &mut [u64])
+    requires callable { (i : ℕ) (x : ℕ) → i < length left.now → F.pre f i x }
     requires left_len { length left.now ≡ length out.old }
-    requires within { Within (length left.now) rows.now places.now }
-    ensures { out.new ≡ set_row where_found (length left.now) rows.now
-        places.now left.now }
+    ensures { EachIndex out.new (λ i. F.post f i (slice_index left.now i) (slice_index out.new i)) }
 {
-    let p = left.len();
-    let mut i: usize = 0;
-    while i < out.len() {
-        let hit = set_points::first_reading(rows, p, i, places);
-        out[i] = binaryop::op_if(left[i], hit.reading);
-        i += 1;
-    }
-}
-
-// The left row where no listed series has a reading.
-fn add_left_nans_if_no_right_nans(left: &[u64], rows: &[u64], places: &[usize], out: &mut [u64])
-    requires left_len { length left.now ≡ length out.old }
-    requires within { Within (length left.now) rows.now places.now }
-    ensures { out.new ≡ set_row where_none (length left.now) rows.now
-        places.now left.now }
-{
-    let p = left.len();
-    let mut i: usize = 0;
-    while i < out.len() {
-        let hit = set_points::first_reading(rows, p, i, places);
-        out[i] = binaryop::op_if_not(left[i], hit.reading);
-        i += 1;
-    }
-}
-
-// The left row, each gap filled from the first listed series that has a reading there.
-fn fill_left_nans_with_right_values(left: &[u64], rows: &[u64], places: &[usize], out: &mut [u64])
-    requires left_len { length left.now ≡ length out.old }
-    requires within { Within (length left.now) rows.now places.now }
-    ensures { out.new ≡ set_row filled (length left.now) rows.now
-        places.now left.now }
-{
-    let p = left.len();
-    let mut i: usize = 0;
-    while i < out.len() {
-        out[i] = set_points::filled_point(left[i], rows, p, i, places);
-        i += 1;
+    for i in 0..out.len() {
+        out[i] = f(i, left[i]);
     }
 }
 
@@ -65,23 +28,33 @@ fn set_row(rule: SetRule, left: &[u64], rows: &[u64], places: &[usize], out: &mu
     ensures { out.new ≡ set_row (meant rule) (length left.now) rows.now
         places.now left.now }
 {
+    let p = left.len();
     match rule {
-        SetRule::WhereFound => add_right_nans_to_left(left, rows, places, out),
-        SetRule::WhereNone => add_left_nans_if_no_right_nans(left, rows, places, out),
-        SetRule::Filled => fill_left_nans_with_right_values(left, rows, places, out),
+        SetRule::WhereFound => put_points(
+            move |i, x| op_if(x, first_reading(rows, p, i, places).reading),
+            left,
+            out,
+        ),
+        SetRule::WhereNone => put_points(
+            move |i, x| op_if_not(x, first_reading(rows, p, i, places).reading),
+            left,
+            out,
+        ),
+        SetRule::Filled => put_points(move |i, x| filled_point(x, rows, p, i, places), left, out),
     }
 }
 
 // The row of a left series that meets one right one: a search would find its reading or none.
+#[tactic(auto, using(rows::proofs::Zipping::zipped))]
 fn set_one(rule: SetRule, left: &[u64], right: &[u64], out: &mut [u64])
     requires left_len { length left.now ≡ length out.old }
     requires right_len { length right.now ≡ length out.old }
     ensures { out.new ≡ zip_with (on_reading (meant rule)) left.now right.now }
 {
     match rule {
-        SetRule::WhereFound => set_rows::if_rows(left, right, out),
-        SetRule::WhereNone => set_rows::if_not_rows(left, right, out),
-        SetRule::Filled => set_rows::default_rows(left, right, out),
+        SetRule::WhereFound => rows::zip_rows(op_if, left, right, out),
+        SetRule::WhereNone => rows::zip_rows(op_if_not, left, right, out),
+        SetRule::Filled => rows::zip_rows(op_default, left, right, out),
     }
 }
 
@@ -92,7 +65,7 @@ fn put_with(rule: SetRule, left: &[u64], rows: &[u64], places: &[usize], out: &m
     ensures { out.new ≡ left_row (meant rule) (length left.now) rows.now
         places.now left.now }
 {
-    if places.len() == 0 {
+    if places.is_empty() {
         side_parts::copy_row(out, left);
         return;
     }

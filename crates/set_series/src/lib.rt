@@ -2,7 +2,6 @@
 #![tactic(auto)]
 
 mod binaryop; // a rule on two readings
-mod set_rows; // a rule on two rows, one loop each
 mod set_points; // a rule at one point
 mod left_rows; // the row of a left series that meets several right ones, one, or none
 

@@ -5,7 +5,7 @@ ghost use Rattle.model.specs.Row.{only_missing, zip_with};
 ghost use Rattle.plan.specs.Sets.{rule_by, first_at, set_row};
 ghost use Rattle.reading.specs.Gaps.{gap_of};
 ghost use Rattle.index_lists.specs.Places.{Within};
-ghost use Rattle.set_series.specs.set_points.Points.{meant, hit_of, on_reading, part_end};
+ghost use Rattle.set_series.specs.set_points.Points.{meant, hit_of, on_reading};
 
 use crate::binaryop;
 use operator::Operator;
@@ -45,6 +45,7 @@ pub(crate) fn first_reading(rows: &[u64], p: usize, i: usize, places: &[usize]) 
     ensures { result ≡ hit_of (first_at p rows.now i places.now) }
 {
     let mut j: usize = 0;
+    // 01: The search over right series stops at the first reading found, which the loop yields.
     loop {
         if places.len() <= j {
             break Hit {
@@ -80,21 +81,11 @@ fn part_leaves(rule: SetRule, left: &[u64], right: &[u64]) -> bool
     requires { length right.now ≡ length left.now }
     ensures { result ≡ not (only_missing (zip_with (on_reading (meant rule)) left.now right.now)) }
 {
-    let mut n: u64 = 0;
-    let mut i: usize = 0;
-    while i < left.len() {
-        n += 1 - gap_left(rule, left[i], right[i]);
-        i += 1;
+    let mut gap = 1;
+    for (x, y) in left.iter().zip(right) {
+        gap &= gap_left(rule, *x, *y);
     }
-    n > 0
-}
-
-// The end of a part that begins at the point i of n: 32 points, or what is left.
-fn part_end(i: usize, n: usize) -> usize
-    requires { i < n }
-    ensures { result ≡ part_end i n }
-{
-    if n - i < 32 { n } else { i + 32 }
+    gap == 0
 }
 
 // Whether a rule leaves a reading in a left row that meets one right one: part by part, up to the first that has one.
@@ -103,8 +94,9 @@ fn one_leaves(rule: SetRule, left: &[u64], right: &[u64]) -> bool
     ensures { result ≡ not (only_missing (zip_with (on_reading (meant rule)) left.now right.now)) }
 {
     let mut i: usize = 0;
+    // By parts: 32 points a step, or what is left.
     while i < left.len() {
-        let e = part_end(i, left.len());
+        let e = left.len().min(i + 32);
         if part_leaves(rule, &left[i..e], &right[i..e]) {
             return true;
         }
@@ -119,13 +111,9 @@ fn several_leave(rule: SetRule, left: &[u64], rows: &[u64], places: &[usize]) ->
     ensures { result ≡ not (only_missing (set_row (meant rule) (length left.now) rows.now
         places.now left.now)) }
 {
-    let p = left.len();
-    let mut i: usize = 0;
-    while i < left.len() {
-        let hit = first_reading(rows, p, i, places);
-        if gap_left(rule, left[i], hit.reading) > 0 {
-            i += 1;
-        } else {
+    for (i, x) in left.iter().enumerate() {
+        let hit = first_reading(rows, left.len(), i, places);
+        if gap_left(rule, *x, hit.reading) == 0 {
             return true;
         }
     }

@@ -16,7 +16,8 @@ use Rattle.model.proofs.Laws.SetTags.{walk_many, walk_both, walk_lower, walk_hig
 use Rattle.record_tags.specs.Lenient.{labels_of}
 use Rattle.record_tags.specs.Cursors.{encode_tag, keep_sieve}
 use Rattle.kept_labels.specs.Edited.{Sized}
-use Rattle.kept_labels.proofs.Sizes.{length-tags, length-labels, chosen_short, labels_short}
+use Rattle.record_tags.proofs.Sizes.{length-tags}
+use Rattle.kept_labels.proofs.Sizes.{length-labels, chosen_short, labels_short}
 use Rattle.set_tags.specs.edited_tags.Walks.{edited_tags}
 use Rattle.set_tags.specs.naming.Namings.{name_of}
 use Rattle.set_tags.specs.Records.{ShortRecords, edited}

@@ -1,193 +1,87 @@
 // The tags of a join's edited record: both records' tags walked once, in key order, so that no work array is needed.
-ghost use Rattle.std.specs.Prelude.{◌≡◌, cond, ◌-◌, take, drop};
+ghost use Rattle.std.specs.Prelude.{◌≡◌};
 ghost use Rattle.labels.specs.Names.{names_of};
-ghost use Rattle.set_tags.specs.edited_tags.Walks.{Spans, WalkOf, step_if, StepAt, EditedAt};
+ghost use Rattle.set_tags.specs.edited_tags.Walks.{edited_tags, edited_left, StepsOver};
 
 use crate::tag_tests;
-use record_tags::Next;
+use record_tags::{Tag, Tags};
 
-// Where an edit stands: `left` tags of the many side's record are at `many`, and `more` of the source's at `source`.
+// The edited tags, one after another: what is left of the many side's tags and of the source's.
 #[derive(Clone, Copy)]
-pub(crate) struct Walk {
-    pub many: usize,
-    pub left: usize,
-    pub source: usize,
-    pub more: usize,
+pub(crate) struct Edited<'a, 'b> {
+    pub many: Tags<'a>,
+    pub source: Tags<'a>,
+    pub join: &'b [u8],
+    pub skip: &'b [u8],
 }
 
-// The next tag of the edited record: its bytes are start..end of the source's record or of the many side's; and the
-// walk behind it.
-#[derive(Clone, Copy)]
-pub(crate) enum Edited {
-    Tag {
-        sourced: bool,
-        start: usize,
-        end: usize,
-        rest: Walk,
-    },
-    End,
-}
-
-// A step of a walk: it finds the next tag or the end, or passes a tag that the edited record lacks.
-#[derive(Clone, Copy)]
-enum Step {
-    Found(Edited),
-    Passed(Walk),
-}
-
-// The walk at the start of both records' tags.
-pub(crate) fn walk_of(many: &[u8], source: &[u8]) -> Walk
-    ensures { WalkOf many.now source.now result }
-{
-    let m = record_tags::tags_of(many);
-    let s = record_tags::tags_of(source);
-    Walk {
-        many: m.at,
-        left: m.count,
-        source: s.at,
-        more: s.count,
-    }
-}
-
-// The step over a tag of one record: found where the edited record keeps it, else passed.
-fn step_if(kept: bool, sourced: bool, start: usize, end: usize, rest: Walk) -> Step
-    ensures { result ≡ step_if kept sourced start end rest }
-{
-    if kept {
-        Step::Found(Edited::Tag {
-            sourced,
-            start,
-            end,
-            rest,
-        })
-    } else {
-        Step::Passed(rest)
-    }
-}
-
-// The step over the lower of both records' next keys, or over the two tags of a key that both have.
-fn next_step(many: &[u8], source: &[u8], w: Walk, join: &[u8], skip: &[u8]) -> Step
-    ensures { StepAt (names_of join.now) (names_of skip.now) many.now source.now w result }
-{
-    let x = record_tags::next_tag(many, w.many, w.left);
-    let y = record_tags::next_tag(source, w.source, w.more);
-    let Next::Tag {
-        start,
-        key,
-        key_end,
-        end,
-        left,
-    } = x
-    else {
-        let Next::Tag {
-            start: begin,
-            key: other,
-            key_end: other_end,
-            end: stop,
-            left: more,
-        } = y
-        else {
-            return Step::Found(Edited::End);
-        };
-        return step_if(
-            tag_tests::is_set(join, skip, &source[other..other_end]),
-            true,
-            begin,
-            stop,
-            Walk {
-                many: w.many,
-                left: w.left,
-                source: stop,
-                more,
-            },
-        );
-    };
-    let label = &many[key..key_end];
-    let behind = Walk {
-        many: end,
-        left,
-        source: w.source,
-        more: w.more,
-    };
-    let Next::Tag {
-        start: begin,
-        key: other,
-        key_end: other_end,
-        end: stop,
-        left: more,
-    } = y
-    else {
-        return step_if(
-            tag_tests::remains(join, skip, label),
-            false,
-            start,
-            end,
-            behind,
-        );
-    };
-    let other_label = &source[other..other_end];
-    if fields::same_bytes(label, other_label) {
-        let rest = Walk {
-            many: end,
-            left,
-            source: stop,
-            more,
-        };
-        if tag_tests::is_set(join, skip, label) {
-            return step_if(true, true, begin, stop, rest);
-        }
-        return step_if(true, false, start, end, rest);
-    }
-    if fields::is_below(label, other_label) {
-        return step_if(
-            tag_tests::remains(join, skip, label),
-            false,
-            start,
-            end,
-            behind,
-        );
-    }
-    step_if(
-        tag_tests::is_set(join, skip, other_label),
-        true,
-        begin,
-        stop,
-        Walk {
-            many: w.many,
-            left: w.left,
-            source: stop,
-            more,
-        },
-    )
-}
-
-// The next tag of the edited record.
-pub(crate) fn next_edited(many: &[u8], source: &[u8], w: Walk, join: &[u8], skip: &[u8]) -> Edited
-    ensures { EditedAt (names_of join.now) (names_of skip.now) many.now source.now w result }
-{
-    let mut v = w;
-    loop {
-        match next_step(many, source, v, join, skip) {
-            Step::Found(x) => return x,
-            Step::Passed(rest) => v = rest,
-        }
-    }
-}
-
-// The bytes of a tag of either record.
-pub(crate) fn tag_bytes<'a>(
+pub(crate) fn edited_of<'a, 'b>(
     many: &'a [u8],
     source: &'a [u8],
-    sourced: bool,
-    start: usize,
-    end: usize,
-) -> &'a [u8]
-    requires { Spans (cond sourced source.now many.now) start end }
-    ensures { result.now ≡ take (end - start) (drop start (cond sourced source.now many.now)) }
+    join: &'b [u8],
+    skip: &'b [u8],
+) -> Edited<'a, 'b>
+    ensures { edited_left result ≡ edited_tags (names_of join.now) (names_of skip.now) many.now source.now }
 {
-    if sourced {
-        &source[start..end]
-    } else {
-        &many[start..end]
+    Edited {
+        many: record_tags::tags_of(many),
+        source: record_tags::tags_of(source),
+        join,
+        skip,
+    }
+}
+
+impl<'a, 'b> Edited<'a, 'b> {
+    // The step over the lower of both records' next keys, or over the two tags of a key that both have: a tag, or none
+    // where the edited record lacks it. At the end there is no step.
+    fn step(&mut self) -> Option<Option<Tag<'a>>>
+        ensures { StepsOver self.old result self.new }
+    {
+        let mut many = self.many;
+        let mut source = self.source;
+        let Some(tag) = many.next() else {
+            let other = source.next()?;
+            self.source = source;
+            return Some(tag_tests::is_set(self.join, self.skip, other.key).then_some(other));
+        };
+        let Some(other) = source.next() else {
+            self.many = many;
+            return Some(tag_tests::remains(self.join, self.skip, tag.key).then_some(tag));
+        };
+        if fields::same_bytes(tag.key, other.key) {
+            self.many = many;
+            self.source = source;
+            if tag_tests::is_set(self.join, self.skip, tag.key) {
+                return Some(Some(other));
+            }
+            return Some(Some(tag));
+        }
+        if fields::is_below(tag.key, other.key) {
+            self.many = many;
+            return Some(tag_tests::remains(self.join, self.skip, tag.key).then_some(tag));
+        }
+        self.source = source;
+        Some(tag_tests::is_set(self.join, self.skip, other.key).then_some(other))
+    }
+}
+
+impl<'a, 'b> Iterator for Edited<'a, 'b> {
+    ghost use Rattle.std.specs.Iterator.{YieldsFirstBy, item_count};
+    ghost use Rattle.record_tags.specs.Cursors.{tag_of};
+    ghost use Rattle.set_tags.specs.edited_tags.Walks.{edited_left};
+
+    type Item = Tag<'a>;
+
+    ghost next_gives = { YieldsFirstBy tag_of edited_left };
+
+    ghost remaining = { item_count edited_left };
+
+    fn next(&mut self) -> Option<Tag<'a>> {
+        while let Some(step) = self.step() {
+            if let Some(tag) = step {
+                return Some(tag);
+            }
+        }
+        None
     }
 }

@@ -15,7 +15,7 @@ ghost use Rattle.kept_labels.specs.Edited.{TagsSized, Sized};
 ghost use Rattle.set_tags.specs.edited_tags.Walks.{edited_tags};
 ghost use Rattle.set_tags.specs.Records.{ShortRecords, TagsPut, edited};
 
-use crate::edited_tags::Edited;
+use crate::edited_tags::edited_of;
 pub use edited_alike::{hash_edited, same_edited};
 use kept_labels::Size;
 pub use naming::{Naming, naming_of};
@@ -26,23 +26,13 @@ fn edited_size(many: &[u8], source: &[u8], join: &[u8], skip: &[u8]) -> Size
     ensures { TagsSized
         (edited_tags (names_of join.now) (names_of skip.now) many.now source.now) result }
 {
-    let mut w = edited_tags::walk_of(many, source);
     let mut tags: usize = 0;
     let mut bytes: usize = 0;
-    loop {
-        let Edited::Tag {
-            sourced: _,
-            start,
-            end,
-            rest,
-        } = edited_tags::next_edited(many, source, w, join, skip)
-        else {
-            return Size { tags, bytes };
-        };
+    for tag in edited_of(many, source, join, skip) {
         tags += 1;
-        bytes += end - start;
-        w = rest;
+        bytes += tag.bytes.len();
     }
+    Size { tags, bytes }
 }
 
 // What writing the edited tags gives: how many they are, and the place behind them.
@@ -66,27 +56,13 @@ fn put_edited<'a>(
         (edited_tags (names_of join.now) (names_of skip.now) many.now source.now)
         out.old at out.new result }
 {
-    let mut w = edited_tags::walk_of(many, source);
     let mut tags: usize = 0;
     let mut o = at;
-    loop {
-        let Edited::Tag {
-            sourced,
-            start,
-            end,
-            rest,
-        } = edited_tags::next_edited(many, source, w, join, skip)
-        else {
-            return PutTags { tags, end: o };
-        };
+    for tag in edited_of(many, source, join, skip) {
         tags += 1;
-        o = writing::put_bytes(
-            out,
-            o,
-            edited_tags::tag_bytes(many, source, sourced, start, end),
-        );
-        w = rest;
+        o = writing::put_bytes(out, o, tag.bytes);
     }
+    PutTags { tags, end: o }
 }
 
 // How many tags the edited record has, and its bytes. It is named as the caller says, whatever the lists; `naming_of` gives 01's naming.

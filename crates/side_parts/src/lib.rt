@@ -13,14 +13,13 @@ pub struct Shape {
 }
 
 // The record of series i.
+#[tactic(auto, unfolding(crate::specs::Sides::record_at))]
 pub fn record<'a>(array: &'a [u8], at: &[usize], i: usize) -> &'a [u8]
     requires positions { Positions array.now at.now }
     requires i_in_bounds { i + 1 < length at.now }
     ensures { result.now ≡ record_at array.now at.now i }
 {
-    let a = at[i];
-    let e = at[i + 1];
-    &array[a..e]
+    &array[at[i]..at[i + 1]]
 }
 
 // The row of series i, of p readings.
@@ -28,9 +27,7 @@ pub fn row(rows: &[u64], p: usize, i: usize) -> &[u64]
     requires { i * p + p ≤ length rows.now }
     ensures { result.now ≡ row_at p rows.now i }
 {
-    let a = i * p;
-    let e = a + p;
-    &rows[a..e]
+    &rows[i * p..i * p + p]
 }
 
 // Copies a row.
@@ -38,9 +35,5 @@ pub fn copy_row(dst: &mut [u64], src: &[u64])
     requires { length src.now ≡ length dst.old }
     ensures { dst.new ≡ src.now }
 {
-    let mut i: usize = 0;
-    while i < dst.len() {
-        dst[i] = src[i];
-        i += 1;
-    }
+    dst.copy_from_slice(src);
 }

@@ -3,19 +3,13 @@
 // 2,048), the rows.
 #![tactic(auto)]
 
-ghost use Rattle.std.specs.Prelude.{◌≡◌, ◌*◌, ◌≤◌, length, IfOk};
+ghost use Rattle.std.specs.Prelude.{◌≡◌, ◌*◌, ◌<◌, ◌≤◌, length, IfOk, IfSome};
 
 use case_parts::{number_at, reading_at};
 use case_text::{print, read_full};
-use merge::Merged;
-use operator::{Coded, Operator};
+use merge::MergeError;
+use operator::Operator;
 use std::io;
-
-fn size(b: u8) -> usize
-    ensures { result ≤ 255 }
-{
-    b as usize
-}
 
 // A row that begins with n readings.
 fn load(s: &[u8], n: usize) -> [u64; 2048]
@@ -53,7 +47,7 @@ fn run_operator(
     requires left_len { length left.now ≡ length out.old }
     requires right_len { length right.now ≡ length out.old }
 {
-    if let Coded::Known(o) = Operator::from_byte(op) {
+    if let Ok(o) = Operator::try_from(op) {
         rows::apply_rows(o, bool, left, right, out);
         print_row(rt, b"rows", out)?;
     }
@@ -61,12 +55,13 @@ fn run_operator(
 }
 
 fn run_merge(rt: &impl Print, allowance: usize, dst: &mut [u64], src: &[u64]) -> io::Result<()> {
-    match merge::merge_non_overlapping_timeseries(dst, src, allowance) {
-        Merged::Done => print_row(rt, b"done", dst),
-        Merged::Overlapping => print_row(rt, b"overlapping", dst),
-        Merged::Unequal => print_row(rt, b"refused 6", dst),
-        Merged::BadAllowance => print_row(rt, b"refused 13", dst),
-    }
+    let name: &[u8] = match merge::merge_non_overlapping_timeseries(dst, src, allowance) {
+        Ok(()) => b"done",
+        Err(MergeError::Overlapping) => b"overlapping",
+        Err(MergeError::Unequal) => b"refused 6",
+        Err(MergeError::BadAllowance) => b"refused 13",
+    };
+    print_row(rt, name, dst)
 }
 
 fn run_loaded(
@@ -83,7 +78,7 @@ fn run_loaded(
     requires m_in_bounds { m ≤ length right.now }
 {
     if what == 1 {
-        return run_merge(rt, size(op), &mut left[..n], &right[..m]);
+        return run_merge(rt, usize::from(op), &mut left[..n], &right[..m]);
     }
     if n == m {
         let mut out = [0u64; 2048];
@@ -92,40 +87,33 @@ fn run_loaded(
     Ok(())
 }
 
-// Runs the case at the start of the bytes: its length, or 0 where it is cut.
-fn run_case(rt: &impl Print, s: &[u8]) -> io::Result<usize>
-    ensures { IfOk result (λ k. k ≤ length s.now) }
+// Runs the case at the start of the bytes: its length, or None where it is cut.
+fn run_case(rt: &impl Print, s: &[u8]) -> io::Result<Option<usize>>
+    ensures { IfOk result (λ o. IfSome o (λ k. (0 < k) × (k ≤ length s.now))) }
 {
     if s.len() < 8 {
-        return Ok(0);
+        return Ok(None);
     }
     let n = number_at(s, 4);
     let m = number_at(s, 6);
-    if 2048 < n {
-        return Ok(0);
-    }
-    if 2048 < m {
-        return Ok(0);
+    if n > 2048 || m > 2048 {
+        return Ok(None);
     }
     let middle = 8 + n * 8;
     let end = middle + m * 8;
     if s.len() < end {
-        return Ok(0);
+        return Ok(None);
     }
     let mut left = load(&s[8..middle], n);
     let right = load(&s[middle..end], m);
     run_loaded(rt, s[0], s[1], s[2] == 1, &mut left, n, &right, m)?;
-    Ok(end)
+    Ok(Some(end))
 }
 
 fn run(rt: &impl Print, s: &[u8]) -> io::Result<()> {
-    let mut at: usize = 0;
-    while at < s.len() {
-        let k = run_case(rt, &s[at..])?;
-        if k == 0 {
-            return Ok(());
-        }
-        at += k;
+    let mut rest = s;
+    while let Some(k) = run_case(rt, rest)? {
+        rest = &rest[k..];
     }
     Ok(())
 }

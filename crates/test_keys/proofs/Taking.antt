@@ -8,18 +8,21 @@ use mir.Val.{Fits}
 use lib.ListN.{length, take, drop, length-drop}
 use lib.Seq.{take_all}
 use Rattle.model.specs.Limits.{sizes_length}
-use Rattle.side_parts.specs.declared.Shape.{Shape}
+use Rattle.std.specs.Prelude.{Result, Ok}
 use Rattle.side_parts.specs.Lent.{shape_of}
 use Rattle.timeseries.specs.Takes.{TakenInto}
 use Rattle.timeseries.specs.TakeLaws.{SideTaken, side_taken, taken_long}
-use Rattle.timeseries.specs.declared.Taken.{Taken}
-use Rattle.timeseries.specs.declared.Taken.TheVariants as T
+use Rattle.timeseries.specs.declared.VectorFault.{VectorFault}
+use Rattle.timeseries.specs.declared.Vector.{Vector}
 use Rattle.test_keys.specs.Sides.{Side, SideAt}
 
-module _ (s x before after : List ℕ) (room : length before ≡ 513) (t : Taken) (into : TakenInto s x before t after) (n : ℕ)
-    (shape : Shape) (e : t ≡ T.Vector n shape) where
-  side_is : SideTaken 0 s x after n (shape_of shape)
-  side_is = side_taken 0 s x before after room t into n shape e
+module _ (s x before after : List ℕ) (room : length before ≡ 513) (t : Result Vector VectorFault)
+    (into : TakenInto s x before t after) (v : Vector) (e : t ≡ Ok v) where
+  abbrev n : ℕ
+  n = v.series
+
+  side_is : SideTaken 0 s x after n (shape_of v.shape)
+  side_is = side_taken 0 s x before after room t into v e
 
   pub entry_fits : Fits w64 (n + 1)
   entry_fits = let h = side_is.few in omega (arith, h)
@@ -34,4 +37,4 @@ module _ (s x before after : List ℕ) (room : length before ≡ 513) (t : Taken
   pub side_at_lem : sizes_length ≤ length s → SideAt s after (n + 1)
   side_at_lem h =
       let few = side_is.few in
-      record { noted = omega (arith, few, taken_long s x before after t into, room); sizes = λ z. h; side = λ z. taken_side }
+      record { noted = omega (arith, few, taken_long s x before after t into, room); sizes = h; side = taken_side }

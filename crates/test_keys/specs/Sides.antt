@@ -12,5 +12,5 @@ pub record Side (array at : List ℕ) : Type 0 where
 -- r positions of a label part, where it is taken
 pub record SideAt (labels at : List ℕ) (r : ℕ) : Type 0 where
   pub noted : r ≤ length at
-  pub sizes : 0 < r → sizes_length ≤ length labels
-  pub side : 0 < r → Side (take (length labels - sizes_length) (drop sizes_length labels)) (take r at)
+  pub sizes : sizes_length ≤ length labels
+  pub side : Side (take (length labels - sizes_length) (drop sizes_length labels)) (take r at)

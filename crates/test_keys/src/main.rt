@@ -4,22 +4,23 @@
 // two bytes of length, the low byte first, and that many bytes.
 #![tactic(auto)]
 
-ghost use Rattle.std.specs.Prelude.{◌≡◌, ◌+◌, length, IfOk};
+ghost use Rattle.std.specs.Prelude.{◌≡◌, ◌+◌, length, None, IfOk, IfSome};
 ghost use Rattle.side_parts.specs.Sides.{Positions};
 ghost use Rattle.test_keys.specs.Sides.{Side, SideAt};
 
 use case_parts::part_at;
 use case_text::{print, print_number, read_full};
+use key_numbers::{HashedSide, KeyRule};
 use labels::Matching;
 use operator::Operator;
 use std::io;
-use timeseries::Taken;
+use timeseries::VectorFault;
 
-// What a key has in it.
+// A side's records, and their positions.
 #[derive(Clone, Copy)]
-struct Choice {
-    named: bool,
-    matching: Matching,
+struct Records<'a> {
+    array: &'a [u8],
+    at: &'a [usize],
 }
 
 fn print_numbers(rt: &impl Print, keys: &[usize]) -> io::Result<()> {
@@ -29,69 +30,54 @@ fn print_numbers(rt: &impl Print, keys: &[usize]) -> io::Result<()> {
     Ok(())
 }
 
-fn number<'a, 'b>(
-    choice: Choice,
-    list: &[u8],
-    left: &'a [u8],
-    left_at: &'b [usize],
+fn number(
+    rule: KeyRule,
+    left: Records,
     left_hashes: &mut [u64],
     left_keys: &mut [usize],
-    right: &'a [u8],
-    right_at: &'b [usize],
+    right: Records,
     right_hashes: &mut [u64],
     right_keys: &mut [usize],
 )
-    requires positions { Positions left.now left_at.now }
-    requires left_at_len { length left_at.now ≡ length left_keys.old + 1 }
+    requires positions { Positions left.array.now left.at.now }
+    requires left_at_len { length left.at.now ≡ length left_keys.old + 1 }
     requires left_hashes_len { length left_hashes.old ≡ length left_keys.old }
-    requires positions_2 { Positions right.now right_at.now }
-    requires right_at_len { length right_at.now ≡ length right_keys.old + 1 }
+    requires positions_2 { Positions right.array.now right.at.now }
+    requires right_at_len { length right.at.now ≡ length right_keys.old + 1 }
     requires right_hashes_len { length right_hashes.old ≡ length right_keys.old }
 {
-    let named = choice.named;
-    let matching = choice.matching;
-    key_numbers::number_left(left, left_at, named, matching, list, left_hashes, left_keys);
+    key_numbers::number_left(left.array, left.at, rule, left_hashes, left_keys);
+    let hashed = HashedSide {
+        array: left.array,
+        at: left.at,
+        hashes: left_hashes,
+    };
     key_numbers::number_right(
-        left,
-        left_at,
-        left_hashes,
-        right,
-        right_at,
-        named,
-        matching,
-        list,
+        hashed,
+        right.array,
+        right.at,
+        rule,
         right_hashes,
         right_keys,
     );
 }
 
-fn number_sides<'a, 'b>(
-    rt: &impl Print,
-    choice: Choice,
-    list: &[u8],
-    left: &'a [u8],
-    left_at: &'b [usize],
-    right: &'a [u8],
-    right_at: &'b [usize],
-) -> io::Result<()>
-    requires side { Side left.now left_at.now }
-    requires side_2 { Side right.now right_at.now }
+fn number_sides(rt: &impl Print, rule: KeyRule, left: Records, right: Records) -> io::Result<()>
+    requires side { Side left.array.now left.at.now }
+    requires side_2 { Side right.array.now right.at.now }
 {
-    let n = left_at.len() - 1;
-    let m = right_at.len() - 1;
+    let n = left.at.len() - 1;
+    let m = right.at.len() - 1;
     let mut left_hashes = [0u64; 512];
     let mut left_keys = [0usize; 512];
     let mut right_hashes = [0u64; 512];
     let mut right_keys = [0usize; 512];
     number(
-        choice,
-        list,
+        rule,
         left,
-        left_at,
         &mut left_hashes[..n],
         &mut left_keys[..n],
         right,
-        right_at,
         &mut right_hashes[..m],
         &mut right_keys[..m],
     );
@@ -101,87 +87,66 @@ fn number_sides<'a, 'b>(
     print(rt, b"\n")
 }
 
-// A side that is not taken, with 01's number and place.
-fn refused(rt: &impl Print, number: usize, place: usize) -> io::Result<usize>
-    ensures { IfOk result (λ n. n ≡ 0) }
+// Tells of a side that is not taken, with 01's number and place.
+fn refused(rt: &impl Print, number: usize, place: usize) -> io::Result<Option<usize>>
+    ensures { IfOk result (λ n. n ≡ None) }
 {
     print(rt, b"refused")?;
     print_number(rt, number)?;
     print_number(rt, place)?;
     print(rt, b"\n")?;
-    Ok(0)
+    Ok(None)
 }
 
-// Takes a side: how many positions are noted, or 0 where it is refused.
-fn take(rt: &impl Print, labels: &[u8], at: &mut [usize; 513]) -> io::Result<usize>
+// Takes a side: how many positions are noted, or none where it is refused.
+fn take(rt: &impl Print, labels: &[u8], at: &mut [usize; 513]) -> io::Result<Option<usize>>
     requires { length at.old ≡ 513 }
-    ensures { IfOk result (SideAt labels.now at.new) }
+    ensures { IfOk result (λ n. IfSome n (SideAt labels.now at.new)) }
 {
     if labels.len() < Operator::SIZES_LENGTH {
         return refused(rt, 3, 0);
     }
-    let none = [0u64; 1];
-    match timeseries::take_vector(labels, &none[..0], at) {
-        Taken::Cut(place) => refused(rt, 3, place),
-        Taken::BadKey(place) => refused(rt, 4, place),
-        Taken::Readings => refused(rt, 5, 0),
-        Taken::BadGrid => refused(rt, 11, 0),
-        Taken::Vector { series, shape } => Ok(series + 1),
+    match timeseries::take_vector(labels, &[], at) {
+        Ok(vector) => Ok(Some(vector.series + 1)),
+        Err(VectorFault::Cut(place)) => refused(rt, 3, place),
+        Err(VectorFault::BadKey(place)) => refused(rt, 4, place),
+        Err(VectorFault::Readings) => refused(rt, 5, 0),
+        Err(VectorFault::BadGrid) => refused(rt, 11, 0),
     }
 }
 
-fn take_sides<'a>(
-    rt: &impl Print,
-    choice: Choice,
-    list: &[u8],
-    left: &'a [u8],
-    right: &'a [u8],
-) -> io::Result<()> {
+fn take_sides(rt: &impl Print, rule: KeyRule, left: &[u8], right: &[u8]) -> io::Result<()> {
     let mut left_at = [0usize; 513];
-    let n = take(rt, left, &mut left_at)?;
-    if n == 0 {
+    let Some(n) = take(rt, left, &mut left_at)? else {
         return Ok(());
-    }
-    let mut right_at = [0usize; 513];
-    let m = take(rt, right, &mut right_at)?;
-    if m == 0 {
-        return Ok(());
-    }
-    number_sides(
-        rt,
-        choice,
-        list,
-        &left[Operator::SIZES_LENGTH..],
-        &left_at[..n],
-        &right[Operator::SIZES_LENGTH..],
-        &right_at[..m],
-    )
-}
-
-fn matching_of(n: u8) -> Matching {
-    match n {
-        0 => Matching::All,
-        1 => Matching::On,
-        _ => Matching::Ignoring,
-    }
-}
-
-fn answer<'a>(
-    rt: &impl Print,
-    choice: u8,
-    list: &[u8],
-    left: &'a [u8],
-    right: &'a [u8],
-) -> io::Result<()> {
-    let choice = Choice {
-        named: 3 <= choice,
-        matching: matching_of(choice % 3),
     };
-    take_sides(rt, choice, list, left, right)
+    let mut right_at = [0usize; 513];
+    let Some(m) = take(rt, right, &mut right_at)? else {
+        return Ok(());
+    };
+    let left = Records {
+        array: &left[Operator::SIZES_LENGTH..],
+        at: &left_at[..n],
+    };
+    let right = Records {
+        array: &right[Operator::SIZES_LENGTH..],
+        at: &right_at[..m],
+    };
+    number_sides(rt, rule, left, right)
+}
+
+fn answer(rt: &impl Print, choice: u8, list: &[u8], left: &[u8], right: &[u8]) -> io::Result<()> {
+    let rule = KeyRule {
+        named: 3 <= choice,
+        matching: Matching::try_from(choice % 3).unwrap_or(Matching::Ignoring),
+        list,
+    };
+    take_sides(rt, rule, left, right)
 }
 
 fn run(rt: &impl Print, s: &[u8]) -> io::Result<()> {
-    let mut p: usize = 0;
+    // A case is as long as its parts are: its place is no count.
+    let mut p = 0;
     while p < s.len() {
         let list = part_at(s, p + 1);
         let left_at = p + 3 + list.len();

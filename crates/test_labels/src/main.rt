@@ -4,18 +4,17 @@
 
 use case_parts::part_at;
 use case_text::{print, print_bool, print_bytes, print_front, print_size, read_full};
-use label_records::Record;
+use label_records::RecordFault;
 use labels::Matching;
-use metric_name::TagState;
 use std::io;
 
 // The state and the value of a label.
 fn look_up(rt: &impl Print, rec: &[u8], label: &[u8]) -> io::Result<()> {
     match metric_name::tag_state(rec, label) {
-        TagState::Present => print(rt, b"present ")?,
-        TagState::Absent => print(rt, b"absent ")?,
-        TagState::Cut => print(rt, b"3 ")?,
-        TagState::BadKey => print(rt, b"4 ")?,
+        Ok(true) => print(rt, b"present ")?,
+        Ok(false) => print(rt, b"absent ")?,
+        Err(RecordFault::Cut) => print(rt, b"3 ")?,
+        Err(RecordFault::BadKey) => print(rt, b"4 ")?,
     }
     print_bytes(rt, metric_name::tag_value(rec, label))
 }
@@ -23,9 +22,9 @@ fn look_up(rt: &impl Print, rec: &[u8], label: &[u8]) -> io::Result<()> {
 // A record at the start of the bytes.
 fn read(rt: &impl Print, s: &[u8]) -> io::Result<()> {
     match label_records::read_record(s, 0) {
-        Record::Ok { next } => print!(rt; "ok {next}"),
-        Record::Cut => print(rt, b"3"),
-        Record::BadKey => print(rt, b"4"),
+        Ok(next) => print!(rt; "ok {next}"),
+        Err(RecordFault::Cut) => print(rt, b"3"),
+        Err(RecordFault::BadKey) => print(rt, b"4"),
     }
 }
 
@@ -100,6 +99,7 @@ fn answer(rt: &impl Print, asked: u8, a: &[u8], b: &[u8], list: &[u8]) -> io::Re
 }
 
 fn run(rt: &impl Print, s: &[u8]) -> io::Result<()> {
+    // A case is as long as its parts are: its place is no count.
     let mut p: usize = 0;
     while p < s.len() {
         let a = part_at(s, p + 1);

@@ -2,62 +2,59 @@
 #![tactic(auto)]
 
 use case_parts::part_at;
-use case_text::{print, print_number, read_full};
+use case_text::read_full;
 use labels::Matching;
-use query::{Join, Query, Request};
+use query::{Join, Query, QueryError};
 use std::io;
 
-fn print_flag(rt: &impl Print, b: bool) -> io::Result<()> {
-    if b {
-        print(rt, b" 1")
-    } else {
-        print(rt, b" 0")
-    }
-}
-
-fn print_matching(rt: &impl Print, m: Matching) -> io::Result<()> {
+fn matching_name(m: Matching) -> &'static str {
     match m {
-        Matching::All => print(rt, b" all"),
-        Matching::On => print(rt, b" on"),
-        Matching::Ignoring => print(rt, b" ignoring"),
+        Matching::All => "all",
+        Matching::On => "on",
+        Matching::Ignoring => "ignoring",
     }
 }
 
-fn print_join(rt: &impl Print, j: Join) -> io::Result<()> {
+fn join_name(j: Join) -> &'static str {
     match j {
-        Join::OneToOne => print(rt, b" one"),
-        Join::GroupLeft => print(rt, b" left"),
-        Join::GroupRight => print(rt, b" right"),
+        Join::OneToOne => "one",
+        Join::GroupLeft => "left",
+        Join::GroupRight => "right",
+    }
+}
+
+fn refusal_number(e: QueryError) -> usize {
+    match e {
+        QueryError::BadOperator => 1,
+        QueryError::Malformed => 2,
+        QueryError::BadAllowance => 13,
     }
 }
 
 // Comparison, logical, matching, join, flags, whether the name is cleared, the join list's place, the allowance.
 fn print_query(rt: &impl Print, q: Query) -> io::Result<()> {
-    print(rt, b"asked")?;
-    let operator = q.operator;
-    print_flag(rt, operator.is_comparison())?;
-    print_flag(rt, operator.is_logical_op())?;
-    let matching = q.matching;
-    print_matching(rt, matching)?;
-    let join = q.join;
-    print_join(rt, join)?;
-    print_flag(rt, q.keep_names)?;
-    print_flag(rt, q.as_bool)?;
-    print_flag(rt, query_rules::should_reset_metric_group(q))?;
-    print_number(rt, q.join_at)?;
-    print_number(rt, q.allowance)?;
-    print(rt, b"\n")
+    println!(rt;
+        "asked {} {} {} {} {} {} {} {} {}",
+        u8::from(q.operator.is_comparison()),
+        u8::from(q.operator.is_logical_op()),
+        matching_name(q.matching),
+        join_name(q.join),
+        u8::from(q.keep_names),
+        u8::from(q.as_bool),
+        u8::from(query_rules::should_reset_metric_group(q)),
+        q.join_at,
+        q.allowance
+    )
 }
 
 fn take(rt: &impl Print, s: &[u8]) -> io::Result<()> {
     match query::take_query(s) {
-        Request::Asked(q) => print_query(rt, q),
-        Request::BadOperator => print(rt, b"refused 1 0 0\n"),
-        Request::Malformed => print(rt, b"refused 2 0 0\n"),
-        Request::BadAllowance => print(rt, b"refused 13 0 0\n"),
+        Ok(q) => print_query(rt, q),
+        Err(e) => println!(rt; "refused {} 0 0", refusal_number(e)),
     }
 }
 
+// The cases do not step by one: each begins with its length.
 fn run(rt: &impl Print, s: &[u8]) -> io::Result<()> {
     let mut p: usize = 0;
     while p < s.len() {

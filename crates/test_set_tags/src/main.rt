@@ -10,7 +10,6 @@ ghost use Rattle.set_tags.specs.Records.{ShortRecords};
 
 use case_parts::part_at;
 use case_text::{print, print_bool, print_front, print_size, read_full};
-use label_records::Record;
 use operator::Operator;
 use set_tags::Naming;
 use std::io;
@@ -56,9 +55,8 @@ fn record_at<'a>(s: &'a [u8], at: usize) -> &'a [u8]
     ensures { length result.now ≤ length s.now }
 {
     match label_records::read_record(s, at) {
-        Record::Ok { next } => &s[at..next],
-        Record::Cut => &s[..0],
-        Record::BadKey => &s[..0],
+        Ok(next) => &s[at..next],
+        Err(_) => &s[..0],
     }
 }
 
@@ -84,6 +82,7 @@ fn answer(rt: &impl Print, case: &[u8]) -> io::Result<()>
 }
 
 fn run(rt: &impl Print, s: &[u8]) -> io::Result<()> {
+    // A case is as long as its parts are: its place is no count.
     let mut p: usize = 0;
     while p < s.len() {
         let case = part_at(s, p);

@@ -18,6 +18,7 @@ fn show(rt: &impl Print, s: &[u8], text: &mut [u8]) -> io::Result<()>
 fn run(rt: &impl Print, s: &[u8], text: &mut [u8]) -> io::Result<()>
     requires { max_text ≤ length text.old }
 {
+    // A case is as long as it says: its place is no count.
     let mut p: usize = 0;
     while p < s.len() {
         let n = number_at(s, p) + 65536 * number_at(s, p + 2);

@@ -6,27 +6,27 @@
 use case_parts::{number_at, part_at};
 use case_text::{print, print_number, read_full};
 use std::io;
-use timeseries::Taken;
+use timeseries::{Vector, VectorFault};
 
-fn print_taken(rt: &impl Print, t: Taken) -> io::Result<()> {
-    match t {
-        Taken::Vector { series, shape } => {
+fn print_taken(rt: &impl Print, taken: Result<Vector, VectorFault>) -> io::Result<()> {
+    match taken {
+        Ok(Vector { series, shape }) => {
             print(rt, b"vector")?;
             print_number(rt, series)?;
             print_number(rt, shape.points)?;
             print_number(rt, shape.start)?;
             print_number(rt, shape.step)
         }
-        Taken::Cut(i) => {
+        Err(VectorFault::Cut(i)) => {
             print(rt, b"3")?;
             print_number(rt, i)
         }
-        Taken::BadKey(i) => {
+        Err(VectorFault::BadKey(i)) => {
             print(rt, b"4")?;
             print_number(rt, i)
         }
-        Taken::Readings => print(rt, b"5 0"),
-        Taken::BadGrid => print(rt, b"11 0"),
+        Err(VectorFault::Readings) => print(rt, b"5 0"),
+        Err(VectorFault::BadGrid) => print(rt, b"11 0"),
     }
 }
 
@@ -62,6 +62,7 @@ fn take(rt: &impl Print, labels: &[u8], readings: usize) -> io::Result<()> {
 }
 
 fn run(rt: &impl Print, s: &[u8]) -> io::Result<()> {
+    // A case is as long as its parts are: its place is no count.
     let mut p: usize = 0;
     while p < s.len() {
         let labels = part_at(s, p);

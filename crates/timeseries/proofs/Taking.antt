@@ -13,25 +13,17 @@ use lib.Seq.{take_all, sets}
 use borrow.Author.Tests.{le-leb, lt-leb, le-ltb, lt-ltb, leb-true, leb-false, eq-eqb, ne_eqb, not-true, not-false}
 use Rattle.model.specs.Limits.{sizes_length, max_start, max_step}
 use Rattle.model.specs.Vector.{Shape, Records, records, bad_record, records_in, series_of, with_readings}
-use Rattle.model.specs.Vector.{two_bytes_at, four_bytes_at, eight_bytes_at, shape_in, good_grid, take_vector}
+use Rattle.model.specs.Vector.{two_bytes_at, shape_in, good_grid, take_vector}
 use Rattle.model.proofs.Laws.Vector.{records_read, series_count_lem}
 use Rattle.timeseries.specs.record_walk.Walks as Walks
-use Rattle.timeseries.specs.record_walk.Walks.{whole, walk_answer, records_answer, WalkedInto}
+use Rattle.timeseries.specs.record_walk.Walks.{whole, fault_number, fault_place, walk_answer, records_answer, WalkedInto}
 use Rattle.side_parts.specs.declared.Shape as Code
 use Rattle.side_parts.specs.Lent.{shape_of}
 use Rattle.timeseries.specs.Takes.{sizes, fault, taken_answer, vector_answer, noted_in, TakenInto}
-use Rattle.timeseries.specs.declared.record_walk.Walked.{Walked}
-use Rattle.timeseries.specs.declared.record_walk.Walked.TheVariants as W
-use Rattle.timeseries.specs.declared.Taken.{Taken}
-use Rattle.timeseries.specs.declared.Taken.TheVariants as T
-
--- the shape that sizes state, field by field
-pub shape_read : (s : List ℕ) (p a b : ℕ) → p ≡ two_bytes_at s 2 → a ≡ eight_bytes_at s 6 → b ≡ four_bytes_at s 14
-    → record { points = p; start = a; step = b } ≡ shape_in s
-shape_read s p a b e f g =
-    ap (λ (y : ℕ). record { points = y; start = a; step = b }) e
-    ∙ ap (λ (y : ℕ). record { points = two_bytes_at s 2; start = y; step = b }) f
-    ∙ ap (λ (y : ℕ). record { points = two_bytes_at s 2; start = eight_bytes_at s 6; step = y }) g
+use Rattle.std.specs.Prelude.{Result, Ok, Err, ⊤}
+use Rattle.timeseries.specs.declared.Vector as CodeVector
+use Rattle.timeseries.specs.declared.VectorFault.{VectorFault}
+use Rattle.timeseries.specs.declared.VectorFault.TheVariants as T
 
 not_more : (m n : ℕ) (b : Bool) → leb m n ≡ b → ltb n m ≡ not b
 not_more m n true e = le-ltb n m (leb-true m n e)
@@ -75,7 +67,7 @@ record_fault n shape x (records ls) k i e = absurd (let z : ◌≡◌ {A = ℕ} 
 record_fault n shape x (bad_record l j) k i e = cc
 
 module _ (s x before : List ℕ) where
-  pub take-cut : length s < sizes_length → TakenInto s x before (T.Cut 0) before
+  pub take-cut : length s < sizes_length → TakenInto s x before (Err (T.Cut 0)) before
   unfolding take_vector
   take-cut h = record { answer = rw (lt-leb sizes_length (length s) h); positions = rw (lt-leb sizes_length (length s) h) }
 
@@ -83,7 +75,7 @@ module _ (s x before : List ℕ) where
     long_enough : leb sizes_length (length s) ≡ true
     long_enough = le-leb sizes_length (length s) h18
 
-    pub take-many : 512 < n → TakenInto s x before (T.Cut 0) before
+    pub take-many : 512 < n → TakenInto s x before (Err (T.Cut 0)) before
     unfolding take_vector
     take-many h =
         let many = lt-leb (two_bytes_at s 0) 512 (omega arith) in
@@ -96,7 +88,7 @@ module _ (s x before : List ℕ) where
       points_so : shape.points ≡ two_bytes_at s 2
       points_so = ap (λ (y : Shape). y.points) stated
 
-      pub take-wide : 1024 < shape.points → TakenInto s x before (T.Cut 0) before
+      pub take-wide : 1024 < shape.points → TakenInto s x before (Err (T.Cut 0)) before
       unfolding take_vector
       take-wide h =
           let broad = lt-leb (two_bytes_at s 2) 1024 (omega (arith, h, points_so)) in
@@ -109,7 +101,7 @@ module _ (s x before : List ℕ) where
         tested_so : not (good_grid (shape_in s)) ≡ b
         tested_so = ap (λ (y : Shape). not (good_grid y)) (sym stated) ∙ sym tested
 
-        pub take_off_grid : b ≡ true → TakenInto s x before T.BadGrid before
+        pub take_off_grid : b ≡ true → TakenInto s x before (Err T.BadGrid) before
         unfolding take_vector
         take_off_grid e =
             let off = not-true (good_grid (shape_in s)) (tested_so ∙ e) in
@@ -122,7 +114,7 @@ module _ (s x before : List ℕ) where
           on_grid : good_grid (shape_in s) ≡ true
           on_grid = not-false (good_grid (shape_in s)) (tested_so ∙ kept)
 
-          pub take-other : (length s - sizes_length ≡ size → ⊥) → TakenInto s x before (T.Cut 0) before
+          pub take-other : (length s - sizes_length ≡ size → ⊥) → TakenInto s x before (Err (T.Cut 0)) before
           unfolding take_vector
           take-other h =
               let d : length (drop sizes_length s) ≡ two_bytes_at s 4 → ⊥ = λ e. h (sym (length-drop sizes_length s) ∙ e ∙ sym hs) in
@@ -132,7 +124,7 @@ module _ (s x before : List ℕ) where
                 positions = rw (long_enough, few_enough, narrow_enough, on_grid, other);
               }
 
-          module _ (long : length s - sizes_length ≡ size) (r : Walked) (after : List ℕ)
+          module _ (long : length s - sizes_length ≡ size) (r : Result ⊤ VectorFault) (after : List ℕ)
               (w : WalkedInto n (take (length s - sizes_length) (drop sizes_length s)) before r after) where
             -- what the records come to
             abbrev found : Records
@@ -154,28 +146,25 @@ module _ (s x before : List ℕ) where
             positions_so : after ≡ sets before 0 (noted_in s)
             positions_so = w.positions ∙ rw (all, hn, long_enough, few_enough, narrow_enough, on_grid, sized)
 
-            taken_as : (t : Taken) → taken_answer t ≡ vector_answer (with_readings 0 (two_bytes_at s 0) (shape_in s) x found)
+            taken_as : (t : Result CodeVector.Vector VectorFault) → taken_answer t ≡ vector_answer (with_readings 0 (two_bytes_at s 0) (shape_in s) x found)
                 → TakenInto s x before t after
             taken_as t e = record { answer = e ∙ ap vector_answer (sym taken_so); positions = positions_so }
 
             product : n * shape.points ≡ two_bytes_at s 0 * two_bytes_at s 2
             product = ap (λ (a : ℕ). a * shape.points) hn ∙ ap (λ (a : ℕ). two_bytes_at s 0 * a) points_so
 
-            pub take_unread : r ≡ W.Whole → (length x ≡ n * shape.points → ⊥) → TakenInto s x before T.Readings after
+            pub take_unread : r ≡ Ok tt → (length x ≡ n * shape.points → ⊥) → TakenInto s x before (Err T.Readings) after
             take_unread e h =
-                taken_as T.Readings
+                taken_as (Err T.Readings)
                 (whole_unread (two_bytes_at s 0) (shape_in s) x found (rw e at walked) (λ z. h (z ∙ sym product)))
 
-            pub take_whole : r ≡ W.Whole → length x ≡ n * shape.points → TakenInto s x before (T.Vector n shape) after
+            pub take_whole : r ≡ Ok tt → length x ≡ n * shape.points → TakenInto s x before (Ok (record { series = n; shape = shape })) after
             take_whole e h =
-                taken_as (T.Vector n shape)
+                taken_as (Ok (record { series = n; shape = shape }))
                 (ap (λ (a : ℕ). sizes a (shape_of shape)) hn ∙ ap (λ (y : Shape). sizes (two_bytes_at s 0) y) stated
                 ∙ whole_read (two_bytes_at s 0) (shape_in s) (drop sizes_length s) x found refl (rw e at walked) (h ∙ product))
 
-            pub take_record_cut : (i : ℕ) → r ≡ W.Cut i → TakenInto s x before (T.Cut i) after
-            take_record_cut i e =
-                taken_as (T.Cut i) (record_fault (two_bytes_at s 0) (shape_in s) x found 3 i (rw e at walked))
-
-            pub take_record_bad : (i : ℕ) → r ≡ W.BadKey i → TakenInto s x before (T.BadKey i) after
-            take_record_bad i e =
-                taken_as (T.BadKey i) (record_fault (two_bytes_at s 0) (shape_in s) x found 4 i (rw e at walked))
+            pub take_record_fault : (f : VectorFault) → r ≡ Err f → TakenInto s x before (Err f) after
+            take_record_fault f e =
+                taken_as (Err f)
+                (record_fault (two_bytes_at s 0) (shape_in s) x found (fault_number f) (fault_place f) (rw e at walked))

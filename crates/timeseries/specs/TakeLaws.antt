@@ -1,5 +1,6 @@
 -- Laws of taking: what the code's answer says of the vector, and the positions of one that is taken. Assumes nothing.
-use Rattle.std.specs.Prelude.{ℕ, ◌+◌, ◌-◌, ◌*◌, ◌≤◌, ◌<◌, ◌≡◌, refl, Bool, true, false, cond, ◌&&◌, List, [], ◌∷◌, ◌++◌, leb, eqb, length, take, drop}
+use Rattle.std.specs.Prelude.{ℕ, ◌+◌, ◌-◌, ◌*◌, ◌≤◌, ◌<◌, ◌≡◌, refl, Bool, true, false, cond, ◌&&◌}
+use Rattle.std.specs.Prelude.{List, [], ◌∷◌, ◌++◌, leb, eqb, length, take, drop, Result, Ok}
 use Rattle.std.proofs.Common.{sym, ap, ◌∙◌, arith, length-append, take_at, drop_at, leb-true, eqb-true}
 use Rattle.std.proofs.lemmas.List.{length-map}
 use Rattle.std.proofs.lemmas.List.Edits.{sets, sets-eq}
@@ -21,10 +22,9 @@ use Rattle.side_parts.specs.SideLaws.{starts_count, labels_starts, positions_sta
 use Rattle.timeseries.specs.record_walk.Walks.{noted}
 use Rattle.timeseries.specs.Takes.{TakenAnswer, sizes, taken_answer, vector_answer, answer_number, answer_place}
 use Rattle.timeseries.specs.Takes.{taken_number, taken_place, noted_in, TakenInto}
-use Rattle.side_parts.specs.declared.Shape as Code
 use Rattle.side_parts.specs.Lent.{shape_of}
-use Rattle.timeseries.specs.declared.Taken.{Taken}
-use Rattle.timeseries.specs.declared.Taken.TheVariants as T
+use Rattle.timeseries.specs.declared.VectorFault.{VectorFault}
+use Rattle.timeseries.specs.declared.Vector as CodeVector
 
 -- the positions that are noted of records that are read
 read_positions : (size : ℕ) (ls : List Labels) (s : List ℕ) → length s ≤ size → ReadAs ls s → noted size (length ls) s ≡ starts (size - length s) ls
@@ -39,7 +39,7 @@ read_positions size (l ∷ ls) s h e =
 
 -- the code's answer t, read back: what taking on a side gives
 
-module _ (side : ℕ) (s x : List ℕ) (t : Taken) (ht : taken_answer t ≡ vector_answer (take_vector 0 s x)) where
+module _ (side : ℕ) (s x : List ℕ) (t : Result CodeVector.Vector VectorFault) (ht : taken_answer t ≡ vector_answer (take_vector 0 s x)) where
   refused : (o : TakenVector) → take_vector 0 s x ≡ o → 0 < taken_number t → taken_answer t ≡ vector_answer o
       → take_vector side s x ≡ faulty (taken_number t) side (taken_place t)
   refused (vector v) e h f = absurd (let z : taken_number t ≡ 0 = ap answer_number f in omega (arith, h, z))
@@ -139,11 +139,12 @@ pub record VectorTaken (side : ℕ) (s x : List ℕ) (n : ℕ) (shape : Shape) :
   pub on : v.shape ≡ shape
   pub parts : Parts (drop sizes_length s) x (noted_in s) v
 
-pub taken_vector : (side : ℕ) (s x : List ℕ) (t : Taken) → taken_answer t ≡ vector_answer (take_vector 0 s x)
-    → (n : ℕ) (shape : Code.Shape) → t ≡ T.Vector n shape → VectorTaken side s x n (shape_of shape)
-taken_vector side s x t ht n shape e = go (take_vector 0 s x) refl (rw e at ht)
+pub taken_vector : (side : ℕ) (s x : List ℕ) (t : Result CodeVector.Vector VectorFault) → taken_answer t ≡ vector_answer (take_vector 0 s x)
+    → (r : CodeVector.Vector) → t ≡ Ok r → VectorTaken side s x r.series (shape_of r.shape)
+taken_vector side s x t ht r e = go (take_vector 0 s x) refl (rw e at ht)
   where
-    go : (o : TakenVector) → take_vector 0 s x ≡ o → sizes n (shape_of shape) ≡ vector_answer o → VectorTaken side s x n (shape_of shape)
+    go : (o : TakenVector) → take_vector 0 s x ≡ o → sizes r.series (shape_of r.shape) ≡ vector_answer o
+        → VectorTaken side s x r.series (shape_of r.shape)
     go (vector v) f g = record {
       v = v;
       taken = take-side side 0 s x ∙ ap (on_side side) f;
@@ -169,7 +170,7 @@ module _ (before w after : List ℕ) (ls : List Labels) (noted-so : w ≡ starts
   positions_behind = rw stored_so (drop_at (starts 0 ls) (drop (length ls + 1) before) (length ls + 1) (starts_count 0 ls))
 
 -- the array of positions keeps its length
-pub taken_long : (s x before after : List ℕ) (t : Taken) → TakenInto s x before t after → length after ≡ length before
+pub taken_long : (s x before after : List ℕ) (t : Result CodeVector.Vector VectorFault) → TakenInto s x before t after → length after ≡ length before
 taken_long s x before after t into = ap length into.positions ∙ length-sets before 0 (noted_in s)
 
 -- a side as it is lent after taking: its array, the first n + 1 positions, its shape and its readings
@@ -188,11 +189,17 @@ pub record SideTaken (side : ℕ) (s x at : List ℕ) (n : ℕ) (shape : Shape) 
   pub labels : labels_in (drop sizes_length s) (take (n + 1) at) ≡ labels_of_all v.series
   pub series : lent_series (drop sizes_length s) (take (n + 1) at) shape.points x ≡ v.series
 
-module _ (side : ℕ) (s x before after : List ℕ) (room : length before ≡ 513) (t : Taken) (into : TakenInto s x before t after)
-    (n : ℕ) (shape : Code.Shape) (e : t ≡ T.Vector n shape) where
-  pub side_taken : SideTaken side s x after n (shape_of shape)
+module _ (side : ℕ) (s x before after : List ℕ) (room : length before ≡ 513) (t : Result CodeVector.Vector VectorFault) (into : TakenInto s x before t after)
+    (r : CodeVector.Vector) (e : t ≡ Ok r) where
+  abbrev n : ℕ
+  n = r.series
+
+  abbrev shape : Shape
+  shape = shape_of r.shape
+
+  pub side_taken : SideTaken side s x after r.series (shape_of r.shape)
   side_taken =
-      let w : VectorTaken side s x n (shape_of shape) = taken_vector side s x t into.answer n shape e in
+      let w : VectorTaken side s x n shape = taken_vector side s x t into.answer r e in
       let points : w.v.shape.points ≡ shape.points = ap (λ (y : Shape). y.points) w.on in
       let ls = labels_of_all w.v.series in
       let many : length ls ≡ n = length-map w.v.series (λ y. y.labels) ∙ w.count in

@@ -3,31 +3,26 @@ ghost use Rattle.std.specs.Prelude.{◌≡◌};
 ghost use Rattle.label_records.specs.Records.{record_answer};
 ghost use Rattle.timeseries.specs.label_reader.Reads.{read_from};
 
-use label_records::Record;
+use label_records::RecordFault;
 
-#[derive(Drop)]
+#[derive(Clone, Copy)]
 pub(crate) struct LabelReader<'a> {
     pub labels: &'a [u8],
     pub at: usize,
 }
 
-// A reader at a position of a label array.
-pub(crate) fn reader_at<'a>(labels: &'a [u8], at: usize) -> LabelReader<'a>
-    ensures { (result.labels ≡ labels.entry) × (result.at ≡ at) }
-{
-    LabelReader { labels, at }
-}
+impl<'a> LabelReader<'a> {
+    // A reader at a position of a label array.
+    pub(crate) fn at(labels: &'a [u8], at: usize) -> LabelReader<'a>
+        ensures { (result.labels ≡ labels.entry) × (result.at ≡ at) }
+    {
+        LabelReader { labels, at }
+    }
 
-// The record at the reader's position.
-pub(crate) fn read<'a>(r: LabelReader<'a>) -> Record
-    ensures { record_answer result ≡ read_from r.entry.labels.now r.entry.at }
-{
-    label_records::read_record(r.labels, r.at)
-}
-
-// The record at a position of a label array, through a reader.
-pub(crate) fn read_at(labels: &[u8], at: usize) -> Record
-    ensures { record_answer result ≡ read_from labels.now at }
-{
-    read(reader_at(labels, at))
+    // The place behind the record at the reader's position.
+    pub(crate) fn read(self) -> Result<usize, RecordFault>
+        ensures { record_answer result ≡ read_from self.entry.labels.now self.entry.at }
+    {
+        label_records::read_record(self.labels, self.at)
+    }
 }

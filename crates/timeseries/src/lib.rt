@@ -10,7 +10,6 @@ ghost use Rattle.model.specs.Vector.{shape_in, good_grid};
 ghost use Rattle.side_parts.specs.Lent.{shape_of};
 ghost use Rattle.timeseries.specs.Takes.{TakenInto};
 
-use crate::record_walk::Walked;
 use operator::Operator;
 use side_parts::Shape;
 
@@ -30,19 +29,20 @@ fn shape_in(labels: &[u8]) -> Shape
 fn off_grid(shape: Shape) -> bool
     ensures { result ≡ not (good_grid (shape_of shape)) }
 {
-    if Operator::MAX_START < shape.start {
-        return true;
-    }
-    if shape.step < 1 {
-        return true;
-    }
-    Operator::MAX_STEP < shape.step
+    Operator::MAX_START < shape.start || shape.step < 1 || Operator::MAX_STEP < shape.step
 }
 
-// What taking a vector comes to: its shape, or a fault and its place.
+// A vector that is taken: how many series it has, their points and their grid.
 #[derive(Clone, Copy)]
-pub enum Taken {
-    Vector { series: usize, shape: Shape },
+pub struct Vector {
+    pub series: usize,
+    pub shape: Shape,
+}
+
+// Why a vector is refused: its sizes or a record are cut, a key of a record is bad, its readings are not as many as its
+// sizes state, or its grid is out of range. With the place of the series, 0 where the sizes are at fault.
+#[derive(Clone, Copy, Debug, PartialEq, Eq)]
+pub enum VectorFault {
     Cut(usize),
     BadKey(usize),
     Readings,
@@ -50,35 +50,31 @@ pub enum Taken {
 }
 
 // Takes a vector: a label part, which begins with the sizes, and its readings. Notes where the records start.
-pub fn take_vector(labels: &[u8], readings: &[u64], at: &mut [usize; 513]) -> Taken
+pub fn take_vector(
+    labels: &[u8],
+    readings: &[u64],
+    at: &mut [usize; 513],
+) -> Result<Vector, VectorFault>
     ensures { TakenInto labels.now readings.now at.old result at.new }
 {
     if labels.len() < Operator::SIZES_LENGTH {
-        return Taken::Cut(0);
+        return Err(VectorFault::Cut(0));
     }
-    let n = little_endian::two_bytes_at(labels, 0) as usize;
+    let series = little_endian::two_bytes_at(labels, 0) as usize;
     let shape = shape_in(labels);
     let size = little_endian::two_bytes_at(labels, 4) as usize;
-    if Operator::MAX_SERIES < n {
-        return Taken::Cut(0);
-    }
-    if Operator::MAX_POINTS < shape.points {
-        return Taken::Cut(0);
+    if Operator::MAX_SERIES < series || Operator::MAX_POINTS < shape.points {
+        return Err(VectorFault::Cut(0));
     }
     if off_grid(shape) {
-        return Taken::BadGrid;
+        return Err(VectorFault::BadGrid);
     }
     if labels.len() - Operator::SIZES_LENGTH != size {
-        return Taken::Cut(0);
+        return Err(VectorFault::Cut(0));
     }
-    match record_walk::walk_records(&labels[Operator::SIZES_LENGTH..], n, at) {
-        Walked::Whole => {
-            if readings.len() != n * shape.points {
-                return Taken::Readings;
-            }
-            Taken::Vector { series: n, shape }
-        }
-        Walked::Cut(i) => Taken::Cut(i),
-        Walked::BadKey(i) => Taken::BadKey(i),
+    record_walk::walk_records(&labels[Operator::SIZES_LENGTH..], series, at)?;
+    if readings.len() != series * shape.points {
+        return Err(VectorFault::Readings);
     }
+    Ok(Vector { series, shape })
 }

@@ -12,8 +12,10 @@ use Rattle.semantics.specs.Call as Call
 use Rattle.semantics.specs.Call.{refused, answered, call}
 use Rattle.theorems.proofs.Valid.{answers_are_valid}
 use Rattle.answers.specs.Outcomes.{told, wanted, labels_after, readings_after, starting_with, Ran}
-use Rattle.answers.specs.declared.Told.{Told}
-use Rattle.answers.specs.declared.Outcome.{Outcome}
+use Rattle.std.specs.Prelude.{Result}
+use Rattle.answers.specs.declared.Answer.{Answer}
+use Rattle.answers.specs.declared.Numbers.{Numbers}
+use Rattle.answers.specs.declared.Refusal.{Refusal}
 use Rattle.keyed_sides.specs.TakenSides.{bytes_of, readings_of_lem}
 use Rattle.writing.specs.Written.{Put}
 use Rattle.vecop_run.specs.outcome_text.Text.{printed}
@@ -22,7 +24,7 @@ use Rattle.vecop_run.specs.Vecop.{ran, max_text}
 use Rattle.vecop_run.proofs.Sizes.{answer_size, refusal_size}
 
 -- what is told of a call, over output parts that hold its answer
-pub record Printable (want : Call.Outcome) (w : Told) (x y : List ℕ) : Type 0 where
+pub record Printable (want : Call.Outcome) (w : Result Answer Numbers) (x y : List ℕ) : Type 0 where
   pub within : Within w x y
   pub text : told_text w x y ≡ printed want
   pub short : length (printed want) ≤ max_text
@@ -37,7 +39,7 @@ starts x d r e = rw e (take-append_seam x (drop (length x) d))
 starts_within : (x d r : List ℕ) → r ≡ starting_with x d → length x ≤ length r
 starts_within x d r e = omega (arith, ap length e, length-append x (drop (length x) d))
 
-printable : (want : Call.Outcome) (w : Told) (x₀ y₀ x y : List ℕ) → Borne want → w ≡ wanted want → x ≡ labels_after want x₀
+printable : (want : Call.Outcome) (w : Result Answer Numbers) (x₀ y₀ x y : List ℕ) → Borne want → w ≡ wanted want → x ≡ labels_after want x₀
     → y ≡ readings_after want y₀ → length x ≡ 65535 → length y ≡ 8192 → Printable want w x y
 printable (refused k a b) w x₀ y₀ x y v e hx hy lx ly =
     rw e (record { within = record { lies = tt }; text = refl; short = omega (arith, refusal_size k a b) })
@@ -52,7 +54,7 @@ printable (answered n shape labels readings) w x₀ y₀ x y v e hx hy lx ly =
       short = omega (arith, answer_size n shape labels readings, wx, wy, lx, ly);
     })
 
-module _ (q ll lr rl rr x₀ y₀ x y : List ℕ) (r : Outcome) (hr : Ran (call q ll lr rl rr (length x₀) (length y₀)) x₀ y₀ x y r)
+module _ (q ll lr rl rr x₀ y₀ x y : List ℕ) (r : Result Answer Refusal) (hr : Ran (call q ll lr rl rr (length x₀) (length y₀)) x₀ y₀ x y r)
     (bl : (j : ℕ) → Fits w8 (get_or ll j 0)) (wl : (j : ℕ) → Fits w64 (get_or lr j 0)) (br : (j : ℕ) → Fits w8 (get_or rl j 0))
     (wr : (j : ℕ) → Fits w64 (get_or rr j 0))
     (hx : length x₀ ≡ 65535) (hy : length y₀ ≡ 8192) (sx : length x ≡ length x₀) (sy : length y ≡ length y₀) where

@@ -8,66 +8,53 @@ ghost use Rattle.vecop_run.specs.frame.Frames.{max_input};
 ghost use Rattle.vecop_run.specs.frame.Sides.{reading_count, words_in, readings_in};
 ghost use Rattle.vecop_run.specs.frame.Found.{PartFound, PartsFound, Split};
 
-use fields::Place;
+use fields::Span;
 use little_endian::{eight_bytes_at, four_bytes_at, two_bytes_at};
 use operator::Operator;
 
 pub(crate) const MAX_INPUT: usize = 65536;
 
 // The part whose length stands at a place.
-fn part_at(s: &[u8], at: usize) -> Place
+fn part_at(s: &[u8], at: usize) -> Option<Span>
     requires { at ≤ length s.now }
     ensures { PartFound s.now at result }
 {
     if s.len() - at < 4 {
-        return Place::Short;
+        return None;
     }
     let n = four_bytes_at(s, at) as usize;
     let start = at + 4;
     if n <= s.len() - start {
-        Place::At {
+        Some(Span {
             start,
             end: start + n,
-        }
+        })
     } else {
-        Place::Short
+        None
     }
 }
 
 // Where the query's part and the left side's end.
 #[derive(Clone, Copy)]
-pub(crate) enum Parts {
-    Three { query: usize, left: usize },
-    Unreadable,
+pub(crate) struct Parts {
+    pub(crate) query: usize,
+    pub(crate) left: usize,
 }
 
-pub(crate) fn parts_of(s: &[u8]) -> Parts
+// The three parts; nothing where the input is unreadable.
+pub(crate) fn parts_of(s: &[u8]) -> Option<Parts>
     ensures { PartsFound s.now result }
 {
     if MAX_INPUT < s.len() {
-        return Parts::Unreadable;
+        return None;
     }
-    let Place::At {
-        start: _,
-        end: query,
-    } = part_at(s, 0)
-    else {
-        return Parts::Unreadable;
-    };
-    let Place::At {
-        start: _,
-        end: left,
-    } = part_at(s, query)
-    else {
-        return Parts::Unreadable;
-    };
-    let Place::At { start: _, end } = part_at(s, left) else {
-        return Parts::Unreadable;
-    };
+    let query = part_at(s, 0)?.end;
+    let left = part_at(s, query)?.end;
+    let end = part_at(s, left)?.end;
     if end == s.len() {
-        Parts::Three { query, left }
+        Some(Parts { query, left })
     } else {
-        Parts::Unreadable
+        None
     }
 }
 
@@ -79,8 +66,7 @@ pub(crate) fn labels_end(v: &[u8]) -> usize
         return v.len();
     }
     let size = two_bytes_at(v, 4) as usize;
-    let end = Operator::SIZES_LENGTH + size;
-    if end < v.len() { end } else { v.len() }
+    (Operator::SIZES_LENGTH + size).min(v.len())
 }
 
 // The first k numbers of eight bytes.
@@ -89,14 +75,10 @@ fn read_words(s: &[u8], k: usize, words: &mut [u64]) -> usize
     requires k_in_bounds_2 { k ≤ length words.old }
     ensures { Put words.old 0 (words_in k s.now) words.new result }
 {
-    let mut i: usize = 0;
-    let mut p: usize = 0;
-    while i < k {
-        words[i] = eight_bytes_at(s, p);
-        i += 1;
-        p += 8;
+    for i in 0..k {
+        words[i] = eight_bytes_at(s, 8 * i);
     }
-    i
+    k
 }
 
 // n times p.

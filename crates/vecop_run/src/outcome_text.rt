@@ -9,8 +9,7 @@ ghost use Rattle.vecop_run.specs.outcome_text.Text.{number_text, sizes_text, ans
 ghost use Rattle.vecop_run.specs.outcome_text.Told.{told_text, Within};
 
 use crate::label_text::put_labels;
-use answers::{Outcome, Told};
-use label_records::Record;
+use answers::{Answer, Numbers, Outcome};
 use numerals::{put_decimal, put_digits};
 use side_parts::Shape;
 use writing::{put_byte, put_bytes};
@@ -28,10 +27,8 @@ fn put_row(out: &mut [u8], at: usize, row: &[u64]) -> usize
     ensures { Put out.old at (row_text row.now) out.new result }
 {
     let mut o = at;
-    let mut i: usize = 0;
-    while i < row.len() {
-        o = put_reading(out, o, row[i]);
-        i += 1;
+    for x in row {
+        o = put_reading(out, o, *x);
     }
     o
 }
@@ -61,19 +58,14 @@ fn put_lines(
     let mut o = at;
     let mut from: usize = 0;
     let mut row: usize = 0;
-    let mut left = n;
-    while 0 < left {
-        match label_records::read_record(labels, from) {
-            Record::Ok { next } => {
-                let end = row + p;
-                o = put_line(out, o, &labels[from..next], &readings[row..end]);
-                from = next;
-                row = end;
-                left -= 1;
-            }
-            Record::Cut => return o,
-            Record::BadKey => return o,
-        }
+    for _ in 0..n {
+        let Ok(next) = label_records::read_record(labels, from) else {
+            return o;
+        };
+        let end = row + p;
+        o = put_line(out, o, &labels[from..next], &readings[row..end]);
+        from = next;
+        row = end;
     }
     o
 }
@@ -132,19 +124,23 @@ pub(crate) fn put_outcome(out: &mut [u8], x: Outcome, labels: &[u8], readings: &
     ensures { Put out.old 0 (told_text (told x) labels.now readings.now) out.new result }
 {
     match answers::told_as(x) {
-        Told::Answer {
-            series,
-            shape,
-            bytes,
-        } => {
+        Ok(
+            Answer {
+                series,
+                shape,
+                bytes,
+            },
+        ) => {
             let k = series * shape.points;
             put_answer(out, series, shape, &labels[..bytes], &readings[..k])
         }
-        Told::Refusal {
-            number,
-            first,
-            second,
-        } => put_refusal(out, number, first, second),
+        Err(
+            Numbers {
+                number,
+                first,
+                second,
+            },
+        ) => put_refusal(out, number, first, second),
     }
 }
 

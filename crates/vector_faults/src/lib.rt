@@ -1,26 +1,21 @@
 // Why a vector that a call was given is refused.
 #![tactic(auto)]
 
-ghost use Rattle.std.specs.Prelude.{◌≡◌, ◌<◌};
-ghost use Rattle.timeseries.specs.Takes.{taken_number, taken_place};
-ghost use Rattle.answers.specs.Outcomes.{told, refusal};
+ghost use Rattle.std.specs.Prelude.{◌≡◌};
+ghost use Rattle.timeseries.specs.record_walk.Walks.{fault_number, fault_place};
+ghost use Rattle.answers.specs.Outcomes.{numbers, numbers_of};
 
-use answers::Outcome;
-use timeseries::Taken;
+use answers::Refusal;
+use timeseries::VectorFault;
 
 // Why a side was refused.
-pub fn fault_of(side: usize, taken: Taken) -> Outcome
-    requires { 0 < taken_number taken }
-    ensures { told result ≡ refusal (taken_number taken) side (taken_place taken) }
+pub fn fault_of(side: usize, fault: VectorFault) -> Refusal
+    ensures { numbers_of result ≡ numbers (fault_number fault) side (fault_place fault) }
 {
-    match taken {
-        Taken::Cut(place) => Outcome::Cut { side, place },
-        Taken::BadKey(place) => Outcome::BadKey { side, place },
-        Taken::Readings => Outcome::Readings { side },
-        Taken::BadGrid => Outcome::BadGrid { side },
-        Taken::Vector {
-            series: _,
-            shape: _,
-        } => Outcome::Unequal,
+    match fault {
+        VectorFault::Cut(place) => Refusal::Cut { side, place },
+        VectorFault::BadKey(place) => Refusal::BadKey { side, place },
+        VectorFault::Readings => Refusal::Readings { side },
+        VectorFault::BadGrid => Refusal::BadGrid { side },
     }
 }

@@ -5,8 +5,8 @@ use mathlib.Core.List.{List, [], ◌∷◌, ◌++◌, append_assoc}
 use native.Mathlib.Omega.{arith}
 use native.Mathlib.Numerals.{add-one}
 use native.Mathlib.Nat.{add-zero}
-use lib.ListN.{length, get_or, take, drop, set, length-append, length-drop, length-set, take-append-drop, drop_of_length-le}
-use lib.Seq.{drop-cons, drop-drop, length-take-le, take_at, drop_at, take-suc-set, drop-set-lt, append_snoc}
+use lib.ListN.{length, take, drop, set, length-append, length-drop, length-set, take-append-drop}
+use lib.Seq.{drop-drop, length-take-le, take_at, drop_at, take-suc-set, drop-set-lt, append_snoc}
 use Rattle.writing.specs.Written.{written, Put}
 
 module _ (d : List ℕ) (at : ℕ) where
@@ -50,21 +50,6 @@ module _ (d : List ℕ) (at : ℕ) where
     where
       written_none_at : (x : List ℕ) → at + 1 ≤ length x → written x (at + 1) [] ≡ x
       written_none_at x g = unfold written in rw add-zero (take-append-drop (at + 1) x)
-
--- the loop of `put_bytes`: want is what is to stand there at the end
-module _ (want d₀ d src : List ℕ) (at o j : ℕ) (inv : want ≡ written d o (drop j src)) (ho : o ≡ at + j) (hd : length d ≡ length d₀)
-    (room : at + length src ≤ length d₀) where
-  pub put_turn : j < length src → want ≡ written (set d o (get_or src j 0)) (o + 1) (drop (j + 1) src)
-  put_turn h =
-      inv ∙ ap (written d o) (drop-cons src j 0 h)
-      ∙ sym (written_cons d o (get_or src j 0) (drop (suc j) src) (omega arith))
-      ∙ ap (λ (n : ℕ). written (set d o (get_or src j 0)) (o + 1) (drop n src)) (sym (add-one j))
-
-  pub put_done : length src ≤ j → j ≤ length src → d ≡ want
-  put_done h g = sym (inv ∙ rw (drop_of_length-le src h) (written_none d o (omega arith)))
-
-  pub put_in : j < length src → o < length d
-  put_in h = omega arith
 
 pub put_byte_done : (d : List ℕ) (at b : ℕ) → at + 1 ≤ length d → Put d at (b ∷ []) (set d at b) (at + 1)
 put_byte_done d at b h = record { out = put_one d at b h; next = refl }

@@ -18,14 +18,9 @@ pub fn put_bytes(out: &mut [u8], at: usize, src: &[u8]) -> usize
     requires { at + length src.now ≤ length out.old }
     ensures { Put out.old at src.now out.new result }
 {
-    let mut j: usize = 0;
-    let mut o = at;
-    while j < src.len() {
-        out[o] = src[j];
-        o += 1;
-        j += 1;
-    }
-    o
+    let end = at + src.len();
+    out[at..end].copy_from_slice(src);
+    end
 }
 
 // Writes once more what stands at a place before it, and gives the place behind it.
@@ -34,11 +29,7 @@ pub fn put_again(out: &mut [u8], at: usize, from: usize, n: usize) -> usize
     requires n_in_bounds { at + n ≤ length out.old }
     ensures { Put out.old at (take n (drop from out.old)) out.new result }
 {
-    let mut i: usize = 0;
-    while i < n {
-        let b = out[from + i];
-        out[at + i] = b;
-        i += 1;
-    }
+    let (before, room) = out.split_at_mut(at);
+    room[..n].copy_from_slice(&before[from..from + n]);
     at + n
 }

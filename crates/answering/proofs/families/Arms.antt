@@ -4,7 +4,7 @@ use mathlib.Core.Path.{◌≡◌, refl, ap, ◌∙◌}
 use mathlib.Core.List.{List}
 use native.Mathlib.Omega.{arith}
 use lib.ListN.{length}
-use lib.Seq.{sets, length-sets}
+use lib.Seq.{length-sets}
 use Rattle.operator.specs.declared.Operator.{Operator}
 use Rattle.operator.specs.Kinds.{SetRule, kind_of}
 use Rattle.model.specs.Limits.{max_points}

@@ -5,7 +5,7 @@ use mathlib.Core.Option.{Option, none}
 use mathlib.Core.List.{List, [], map}
 use native.Mathlib.Nat.{zero-add}
 use native.Mathlib.Omega.{arith}
-use lib.ListN.{length, get_or, take, length-map}
+use lib.ListN.{length, take, length-map}
 use lib.Seq.{get_or-take}
 use Rattle.operator.specs.declared.Operator.{Operator}
 use Rattle.operator.specs.Kinds.{kind_of}
@@ -23,8 +23,8 @@ use Rattle.query.specs.declared.Query.{Query}
 use Rattle.query.specs.aggregations.Requests.{aggregate_of}
 use Rattle.side_parts.specs.Lent.{Sides, rows_only, side_labels, BothHeld}
 use Rattle.index_lists.specs.Places.{NotedAll}
-use Rattle.answers.specs.declared.Planned.{Planned}
-use Rattle.answers.specs.declared.Planned.TheVariants as P
+use Rattle.std.specs.Prelude.{Result, Ok}
+use Rattle.answers.specs.declared.Twice.{Twice}
 use Rattle.answers.specs.Plans.{PlannedAs, up_from, up_to}
 use Rattle.answers.proofs.Numbering.{coded_series}
 use Rattle.answers.proofs.Planning.{plan_rows, planned_clear, planned_count, planned_codes}
@@ -48,12 +48,12 @@ use Rattle.answering.specs.declared.families.Groups.{Groups}
 use Rattle.answering.specs.declared.families.Rule.{Rule}
 use Rattle.answering.specs.declared.families.Rule.TheVariants as R
 use Rattle.answering.specs.families.Codes.{plan_series, coded_group_series}
-use Rattle.answering.specs.families.Plans.{early_codes, RulePlanned}
+use Rattle.answering.specs.families.Plans.{RulePlanned}
 use Rattle.answering.proofs.families.Grouping.{group_in, group_series_lem}
 
 -- one-to-one, planned without the records
 
-module _ (first second : List ℕ) (s : Sides) (held : BothHeld s) (q : Query) (before codes marks : List ℕ) (r : Planned)
+module _ (first second : List ℕ) (s : Sides) (held : BothHeld s) (q : Query) (before codes marks : List ℕ) (r : Result ℕ Twice)
     (long : length before ≡ max_series) (marks_long : length marks ≡ 4096)
     (planned : PlannedAs (pairs_clash q.allowance s 0 s.left.keys) (pair_codes s) [] before codes r) where
   abbrev clash : Option Duplicate
@@ -62,16 +62,16 @@ module _ (first second : List ℕ) (s : Sides) (held : BothHeld s) (q : Query) (
   abbrev asked : List Series
   asked = map (pair_series (pair_query first q) s) (pairs_from s.left.keys s.right.keys 0 s.left.keys)
 
-  pairs_answer : (n : ℕ) → r ≡ P.Rows n → map (coded_pair_series (pair_query first q) s) (pair_codes s) ≡ asked
+  pairs_answer : (n : ℕ) → r ≡ Ok n → map (coded_pair_series (pair_query first q) s) (pair_codes s) ≡ asked
   pairs_answer n h = Pairs.codes_series s held (pair_query first q) (planned_clear clash (pair_codes s) [] before codes r planned n h)
 
-  listed : (n : ℕ) → r ≡ P.Rows n → n ≤ max_series → take n codes ≡ pair_codes s
+  listed : (n : ℕ) → r ≡ Ok n → n ≤ max_series → take n codes ≡ pair_codes s
   listed n h few = planned_codes clash (pair_codes s) [] before codes r planned n h (omega (arith, few, long))
 
-  counted : (n : ℕ) → r ≡ P.Rows n → n ≡ length (pair_codes s)
+  counted : (n : ℕ) → r ≡ Ok n → n ≡ length (pair_codes s)
   counted n h = planned_count clash (pair_codes s) [] before codes r planned n h
 
-  pairs_series : (n : ℕ) → r ≡ P.Rows n → n ≤ max_series → map (plan_series (R.Pairs q) first second s (take n codes) marks) (up_to n) ≡ asked
+  pairs_series : (n : ℕ) → r ≡ Ok n → n ≤ max_series → map (plan_series (R.Pairs q) first second s (take n codes) marks) (up_to n) ≡ asked
   pairs_series n h few =
       rw (listed n h few, counted n h) (coded_series (coded_pair_series (pair_query first q) s) (pair_codes s) ∙ pairs_answer n h)
 
@@ -86,7 +86,7 @@ module _ (first second : List ℕ) (s : Sides) (held : BothHeld s) (q : Query) (
   }
 
 pub pairs_planned : (rule : Rule) (first second : List ℕ) (s : Sides) → BothHeld s → (q : Query) → rule ≡ R.Pairs q
-    → (before codes marks : List ℕ) (r : Planned) → length before ≡ max_series → length marks ≡ 4096
+    → (before codes marks : List ℕ) (r : Result ℕ Twice) → length before ≡ max_series → length marks ≡ 4096
     → PlannedAs (pairs_clash q.allowance (rows_only s) 0 s.left.keys) (pair_codes s) [] before codes r
     → RulePlanned rule first second s before codes marks r
 pairs_planned rule first second s held q e before codes marks r long marks_long planned =
@@ -101,7 +101,7 @@ unfolding up_from
 map_below f g i zero h = refl
 map_below f g i (suc n) h = rw (h i (omega arith) (omega arith), map_below f g (suc i) n (λ k l u. h k (omega (arith, l)) (omega (arith, u))))
 
-module _ (w : Work) (first second : List ℕ) (s : Sides) (held : BothHeld s) (before codes marks₀ marks : List ℕ) (r : Planned)
+module _ (w : Work) (first second : List ℕ) (s : Sides) (held : BothHeld s) (before codes marks₀ marks : List ℕ) (r : Result ℕ Twice)
     (long : length before ≡ max_series) (marks_long : length marks₀ ≡ 4096)
     (planned : PlannedAs (first_clash (coded_work w (names_of first) (names_of second)) (many_side w) s)
     (join_codes (coded_work w (names_of first) (names_of second)) s)
@@ -115,7 +115,7 @@ module _ (w : Work) (first second : List ℕ) (s : Sides) (held : BothHeld s) (b
       ≡ coded_join_series w (names_of first) (names_of second) s codes marks k
   same_row n k l = rw (get_or-take n codes k 0 l)
 
-  join_rows_lem : (n : ℕ) → r ≡ P.Rows n → n ≤ max_series
+  join_rows_lem : (n : ℕ) → r ≡ Ok n → n ≤ max_series
       → map (plan_series (R.Join w) first second s (take n codes) marks) (up_to n) ≡ map (join_series work s) (join_codes work s)
   join_rows_lem n h few =
       map_below (plan_series (R.Join w) first second s (take n codes) marks) (coded_join_series w (names_of first) (names_of second) s codes marks) 0 n
@@ -135,7 +135,7 @@ module _ (w : Work) (first second : List ℕ) (s : Sides) (held : BothHeld s) (b
   }
 
 pub join_planned : (rule : Rule) (first second : List ℕ) (s : Sides) → BothHeld s → (w : Work) → rule ≡ R.Join w
-    → (before codes marks₀ marks : List ℕ) (r : Planned) → length before ≡ max_series → length marks₀ ≡ 4096
+    → (before codes marks₀ marks : List ℕ) (r : Result ℕ Twice) → length before ≡ max_series → length marks₀ ≡ 4096
     → PlannedAs (first_clash (coded_work w (names_of first) (names_of second)) (many_side w) s)
     (join_codes (coded_work w (names_of first) (names_of second)) s)
     (Joins.early_codes (coded_work w (names_of first) (names_of second)) (many_side w) s) before codes r
@@ -153,22 +153,22 @@ module _ (op : Operator) (first second : List ℕ) (s : Sides) (held : BothHeld 
   abbrev all : List ℕ
   all = set_codes (work_for (kind_of op) s) s
 
-  set_told : PlannedAs none (set_codes (work_for (kind_of op) s) s) [] before codes (P.Rows r)
+  set_told : PlannedAs none (set_codes (work_for (kind_of op) s) s) [] before codes (Ok r)
   set_told = plan_rows none all [] before codes refl r (noted.count ∙ zero-add (length all)) noted.content
 
-  set_listed_lem : (n : ℕ) → P.Rows r ≡ P.Rows n → n ≤ max_series → take n codes ≡ all
-  set_listed_lem n h few = planned_codes none all [] before codes (P.Rows r) set_told n h (omega (arith, few, long))
+  set_listed_lem : (n : ℕ) → ◌≡◌ {A = Result ℕ Twice} (Ok r) (Ok n) → n ≤ max_series → take n codes ≡ all
+  set_listed_lem n h few = planned_codes none all [] before codes (Ok r) set_told n h (omega (arith, few, long))
 
-  set_counted : (n : ℕ) → P.Rows r ≡ P.Rows n → n ≡ length all
-  set_counted n h = planned_count none all [] before codes (P.Rows r) set_told n h
+  set_counted : (n : ℕ) → ◌≡◌ {A = Result ℕ Twice} (Ok r) (Ok n) → n ≡ length all
+  set_counted n h = planned_count none all [] before codes (Ok r) set_told n h
 
-  set_series_lem : (n : ℕ) → P.Rows r ≡ P.Rows n → n ≤ max_series → map (plan_series (R.Set op) first second s (take n codes) marks) (up_to n)
+  set_series_lem : (n : ℕ) → ◌≡◌ {A = Result ℕ Twice} (Ok r) (Ok n) → n ≤ max_series → map (plan_series (R.Set op) first second s (take n codes) marks) (up_to n)
       ≡ map (set_series (work_for (kind_of op) s) s) (set_rows (work_for (kind_of op) s) s)
   set_series_lem n h few =
       rw (set_listed_lem n h few, set_counted n h)
       (coded_series (coded_set_series (rule_by (kind_of op)) s) all ∙ Sets.codes_series (kind_of op) s held)
 
-  set_made : RulePlanned (R.Set op) first second s before codes marks (P.Rows r)
+  set_made : RulePlanned (R.Set op) first second s before codes marks (Ok r)
   set_made = record {
     planned = set_told;
     count = λ n h.
@@ -181,7 +181,7 @@ module _ (op : Operator) (first second : List ℕ) (s : Sides) (held : BothHeld 
 
 pub set_planned : (rule : Rule) (first second : List ℕ) (s : Sides) → BothHeld s → (op : Operator) → rule ≡ R.Set op
     → (before codes marks : List ℕ) (r : ℕ) → length before ≡ max_series → length marks ≡ 4096
-    → NotedAll (set_codes (work_for (kind_of op) s) s) 0 before codes r → RulePlanned rule first second s before codes marks (P.Rows r)
+    → NotedAll (set_codes (work_for (kind_of op) s) s) 0 before codes r → RulePlanned rule first second s before codes marks (Ok r)
 set_planned rule first second s held op e before codes marks r long marks_long noted =
     rw e (set_made op first second s held before codes marks r long marks_long noted)
 
@@ -198,17 +198,17 @@ module _ (g : Groups) (first second : List ℕ) (s : Sides) (held : BothHeld s) 
       group_series (aggregate_of g.aggregate) (kept (matching_of g.matching) (names_of first) g.named)
       s.shape.points (side_labels s.left) s.left.keys s.left.rows
 
-  groups_told : PlannedAs none (group_codes s.left.keys) [] before codes (P.Rows r)
+  groups_told : PlannedAs none (group_codes s.left.keys) [] before codes (Ok r)
   groups_told = plan_rows none groups [] before codes refl r (noted.count ∙ zero-add (length groups)) noted.content
 
-  groups_listed : (n : ℕ) → P.Rows r ≡ P.Rows n → n ≤ max_series → take n codes ≡ groups
+  groups_listed : (n : ℕ) → ◌≡◌ {A = Result ℕ Twice} (Ok r) (Ok n) → n ≤ max_series → take n codes ≡ groups
   groups_listed n h few =
-      planned_codes none groups [] before codes (P.Rows r) groups_told n h (omega (arith, few, long))
+      planned_codes none groups [] before codes (Ok r) groups_told n h (omega (arith, few, long))
 
-  groups_counted : (n : ℕ) → P.Rows r ≡ P.Rows n → n ≡ length groups
-  groups_counted n h = planned_count none groups [] before codes (P.Rows r) groups_told n h
+  groups_counted : (n : ℕ) → ◌≡◌ {A = Result ℕ Twice} (Ok r) (Ok n) → n ≡ length groups
+  groups_counted n h = planned_count none groups [] before codes (Ok r) groups_told n h
 
-  groups_series : (n : ℕ) → P.Rows r ≡ P.Rows n → n ≤ max_series
+  groups_series : (n : ℕ) → ◌≡◌ {A = Result ℕ Twice} (Ok r) (Ok n) → n ≤ max_series
       → map (plan_series (R.Groups g) first second s (take n codes) marks) (up_to n)
       ≡ map answer (group_rows s.left.keys)
   groups_series n h few =
@@ -217,7 +217,7 @@ module _ (g : Groups) (first second : List ℕ) (s : Sides) (held : BothHeld s) 
       ∙ Grouped.codes_given s.left.keys held.left.rows.few (coded_group_series g (names_of first) s) answer
       (λ x c k. group_series_lem s held x c k g first))
 
-  groups_made : RulePlanned (R.Groups g) first second s before codes marks (P.Rows r)
+  groups_made : RulePlanned (R.Groups g) first second s before codes marks (Ok r)
   groups_made = record {
     planned = groups_told;
     count = λ n h. length-map (group_rows s.left.keys) answer ∙ sym (Grouped.codes_count s.left.keys);
@@ -232,6 +232,6 @@ module _ (g : Groups) (first second : List ℕ) (s : Sides) (held : BothHeld s) 
 pub groups_planned : (rule : Rule) (first second : List ℕ) (s : Sides) → BothHeld s → (g : Groups) → rule ≡ R.Groups g
     → (before codes marks : List ℕ) (r : ℕ) → length before ≡ max_series → length marks ≡ 4096
     → NotedAll (group_codes s.left.keys) 0 before codes r
-    → RulePlanned rule first second s before codes marks (P.Rows r)
+    → RulePlanned rule first second s before codes marks (Ok r)
 groups_planned rule first second s held g e before codes marks r long marks_long noted =
     rw e (groups_made g first second s held before codes marks r long marks_long noted)

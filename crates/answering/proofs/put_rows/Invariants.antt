@@ -1,12 +1,7 @@
 -- `put_rows` meets its contract. Assumes nothing.
-use Prim.Native.Nat.{◌-◌}
-use lib.ListN.{length}
 use Rattle.side_parts.specs.Lent.{unlabelled}
 use Rattle.answering.proofs.Rows.{RowsDone}
 use Rattle.answering.proofs.put_rows.Given as goal
 
 abbrev pub invariant-loop-k : goal.invariant-loop-k
 invariant-loop-k l = RowsDone l.rule (unlabelled l.p l.keys l.rows) l.codes l.marks l.initial.out l.left_work l.right_work l.places l.out l.k
-
-abbrev pub decreases-loop-k : goal.decreases-loop-k
-decreases-loop-k l = length l.codes - l.k

@@ -16,8 +16,8 @@ use Rattle.labels.specs.Matchings.{matching_of}
 use Rattle.kept_labels.specs.Edited.{kept}
 use Rattle.query.specs.aggregations.Requests.{aggregate_of}
 use Rattle.side_parts.specs.Lent.{Sides, side_labels}
-use Rattle.answers.specs.declared.Planned.{Planned}
-use Rattle.answers.specs.declared.Planned.TheVariants.{Rows}
+use Rattle.std.specs.Prelude.{Result, Ok}
+use Rattle.answers.specs.declared.Twice.{Twice}
 use Rattle.answers.specs.Plans.{PlannedAs, up_to}
 use Rattle.pair_records.specs.adjusted_labels.Edits.{pair_query}
 use Rattle.pair_plan.specs.pairs.Pairing.{pair_codes}
@@ -75,10 +75,10 @@ rule_outcome rule first second label_room room s =
     conclude label_room room s.shape (rule_clash rule first second s) (rule_series rule first second s)
 
 -- what planning a rule answers and leaves: codes and marks that stand for the answer series, where these are few enough
-pub record RulePlanned (rule : Rule) (first second : List ℕ) (s : Sides) (before codes marks : List ℕ) (r : Planned) : Type 0 where
+pub record RulePlanned (rule : Rule) (first second : List ℕ) (s : Sides) (before codes marks : List ℕ) (r : Result ℕ Twice) : Type 0 where
   pub planned : PlannedAs (rule_clash rule first second s) (rule_codes rule first second s) (early_codes rule first second s) before codes r
-  pub count : (n : ℕ) → r ≡ Rows n → length (rule_series rule first second s) ≡ length (rule_codes rule first second s)
+  pub count : (n : ℕ) → r ≡ Ok n → length (rule_series rule first second s) ≡ length (rule_codes rule first second s)
   pub marks_long : length marks ≡ 4096
-  pub inside : (n : ℕ) → r ≡ Rows n → n ≤ max_series → (k : ℕ) → k < n → CodeIn rule s (get_or (take n codes) k 0)
-  pub series : (n : ℕ) → r ≡ Rows n → n ≤ max_series
+  pub inside : (n : ℕ) → r ≡ Ok n → n ≤ max_series → (k : ℕ) → k < n → CodeIn rule s (get_or (take n codes) k 0)
+  pub series : (n : ℕ) → r ≡ Ok n → n ≤ max_series
       → map (plan_series rule first second s (take n codes) marks) (up_to n) ≡ rule_series rule first second s

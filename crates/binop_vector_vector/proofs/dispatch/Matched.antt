@@ -32,7 +32,9 @@ use Rattle.query.specs.Queries.{query_of, join_of, matching_part, join_part}
 use Rattle.set_tags.specs.declared.naming.Naming.{Naming}
 use Rattle.set_tags.specs.naming.Namings.{naming_of}
 use Rattle.side_parts.specs.Lent.{Sides, Slices, sides, side_at, side_series, BothHeld}
-use Rattle.answers.specs.declared.Outcome.{Outcome}
+use Rattle.std.specs.Prelude.{Result}
+use Rattle.answers.specs.declared.Answer.{Answer}
+use Rattle.answers.specs.declared.Refusal.{Refusal}
 use Rattle.answers.specs.Outcomes.{Ran}
 use Rattle.join_series.specs.declared.Work.{Work}
 use Rattle.join_series.specs.Queries.{joined_outcome}
@@ -206,7 +208,7 @@ pub rule_ran : (s : List ℕ) (q : Query) → Asked s q → (shape : Shape) (arr
     → SidesKeyed (query_of s q) (drops_missing (kind_of q.operator)) (sides shape arrays at keys rows)
     → (first second : List ℕ) → ListsOf (query_of s q) (names_of first) (names_of second)
     → (rule : Rule) → rule ≡ asked_rule (names_of first) (names_of second) q → (i : ℕ) → FirstSide rule i
-    → (labels₀ out₀ labels out : List ℕ) (r : Outcome)
+    → (labels₀ out₀ labels out : List ℕ) (r : Result Answer Refusal)
     → Ran (rule_outcome rule first second (length labels₀) (length out₀) (sides_from i shape arrays at keys rows)) labels₀ out₀ labels out r
     → Ran (ran_sides (query_of s q) (sides shape arrays at keys rows) (length labels₀) (length out₀)) labels₀ out₀ labels out r
 rule_ran s q a shape arrays at keys rows k first second lists rule e i f labels₀ out₀ labels out r ran =

@@ -1,19 +1,24 @@
 -- The lines of a row, written. Assumes nothing.
-use Prim.Native.Nat.{ℕ, ◌+◌, ◌-◌, ◌≤◌, ◌<◌}
-use mathlib.Core.Path.{◌≡◌, refl, sym, ap, ◌∙◌}
-use mathlib.Core.Bool.{Bool, true, false}
-use mathlib.Core.List.{List, [], ◌++◌, append_assoc}
+use Prim.Native.Nat.{ℕ, suc, ◌+◌, ◌-◌, ◌≤◌, ◌<◌}
+use mathlib.Core.Path.{◌≡◌, refl, sym, ◌∙◌}
+use mathlib.Core.Bool.{Bool, true, false, not, cond}
+use mathlib.Core.List.{List, [], ◌∷◌, ◌++◌, append_assoc}
 use native.Mathlib.Omega.{arith}
 use lib.ListN.{length, get_or, take, drop, length-append, length-drop}
 use lib.Seq.{length-take-le}
+use lib.Dec.{ltb}
+use borrow.Author.Tests.{ltb-true, ltb-false}
+use Rattle.std.specs.Prelude.{None, Some}
+use Rattle.std.specs.List.{position_or_len}
+use Rattle.model.specs.Lists.{cases}
 use Rattle.model.specs.Reading.{missing}
 use Rattle.model.specs.Vector.{Shape}
 use Rattle.exposition.specs.Text.{sample_text, line_text, time_of, lines_text}
 use Rattle.writing.specs.Written.{Put}
 use Rattle.writing.proofs.Written.{Rest, rest_start, rest_room, rest_put, rest_last, rest_done, rest_as}
 use Rattle.writing.proofs.Again.{put_before, put_stands}
-use Rattle.export_text.specs.Lines.{FirstPresent}
-use Rattle.export_text.proofs.series_lines.Sizes.{lines_at, lines_end}
+use Rattle.export_text.specs.Lines.{PresentAt, FirstPresent}
+use Rattle.export_text.proofs.series_lines.Sizes.{no_lines, first_line, lines_at, lines_end}
 
 -- a line of a missing reading, and of a present one
 line_none : (labels : List ℕ) (time x : ℕ) → missing x ≡ true → line_text labels time x ≡ []
@@ -24,30 +29,42 @@ line_some : (labels : List ℕ) (time x : ℕ) → missing x ≡ false → line_
 unfolding line_text
 line_some labels time x e = rw e
 
--- `first_present`: the readings before i give no line
-pub record Skipped (row : List ℕ) (i : ℕ) : Type 0 where
-  pub some : i ≤ length row
-  pub same : (labels : List ℕ) (shape : Shape) → lines_text labels shape 0 row ≡ lines_text labels shape i (drop i row)
+-- `first_present`
+abbrev pub is_present : ℕ → Bool
+is_present x = not (missing x)
 
-pub skip_start : (row : List ℕ) → Skipped row 0
-skip_start row = record { some = omega arith; same = λ labels shape. refl }
+abbrev first_of : List ℕ → ℕ
+first_of row = position_or_len is_present row
 
-module _ (row : List ℕ) (i : ℕ) (inv : Skipped row i) where
-  module _ (h : i < length row) (m : Bool) (hm : m ≡ missing (get_or row i 0)) where
-    pub skip_turn : m ≡ true → Skipped row (i + 1)
-    skip_turn e =
-        record {
-          some = omega arith;
-          same = λ labels shape.
-              inv.same labels shape ∙ lines_at labels shape row i h
-              ∙ rw (line_none labels (time_of shape i) (get_or row i 0) (sym hm ∙ e));
-        }
+-- the readings before it give no line
+skipped : (labels : List ℕ) (shape : Shape) (i : ℕ) (row : List ℕ)
+    → lines_text labels shape i row ≡ lines_text labels shape (i + first_of row) (drop (first_of row) row)
+skipped labels shape i [] = no_lines labels shape i ∙ sym (no_lines labels shape (i + 0))
+skipped labels shape i (x ∷ row) =
+    cases (missing x)
+    (λ e.
+    let more : 1 + first_of row ≡ suc (first_of row) = omega arith in
+    let next : i + suc (first_of row) ≡ suc i + first_of row = omega arith in
+    first_line labels shape i x row
+    ∙ rw (line_none labels (time_of shape i) x e, e, more, next) (skipped labels shape (suc i) row))
+    (λ e. let here : i + 0 ≡ i = omega arith in rw (e, here))
 
-    pub skip_found : m ≡ false → FirstPresent row i
-    skip_found e = record { within = inv.some; skipped = inv.same; present = λ g. sym hm ∙ e }
+present_at : (row : List ℕ) → first_of row < length row → missing (get_or row (first_of row) 0) ≡ false
+present_at [] = λ h. absurd (omega arith)
+present_at (x ∷ row) =
+    let more : 1 + first_of row ≡ suc (first_of row) = omega arith in
+    cases (missing x) (λ e. rw (e, more) (λ h. present_at row (omega arith))) (λ e. rw e (λ h. e))
 
-  pub skip_none : length row ≤ i → FirstPresent row i
-  skip_none h = record { within = inv.some; skipped = inv.same; present = λ g. absurd (omega arith) }
+pub first_found : (row : List ℕ) → FirstPresent row (cond (ltb (first_of row) (length row)) (Some (first_of row)) None)
+first_found row =
+    let from : 0 + first_of row ≡ first_of row = omega arith in
+    cases (ltb (first_of row) (length row))
+    (λ e.
+    let h : first_of row < length row = ltb-true (first_of row) (length row) e in
+    rw e (record { within = h; skipped = λ labels shape. rw from at (skipped labels shape 0 row); present = present_at row h }))
+    (λ e.
+    let h : length row ≤ first_of row = ltb-false (first_of row) (length row) e in
+    rw e (λ labels shape. rw from at (skipped labels shape 0 row) ∙ lines_end labels shape row (first_of row) h))
 
 -- `put_line`: labels once more, and the sample
 module _ (d : List ℕ) (at from n time x : ℕ) (room : at + length (line_text (take n (drop from d)) time x) ≤ length d)
@@ -145,18 +162,19 @@ module _ (shape : Shape) (k : ℕ) (row d₀ : List ℕ) (at from n : ℕ) (d : 
       rest_done d₀ at all d o
       (rest_as d₀ at all d o (lines_text here shape i (drop i row)) [] inv.rest (lines_end here shape row i h))
 
--- `put_lines`: the first line with its labels, and the others
-module _ (labels : List ℕ) (shape : Shape) (row d : List ℕ) (at k : ℕ) (first : FirstPresent row k)
+-- `put_lines`: nothing, or the first line with its labels, and the others
+pub lines_none : (labels : List ℕ) (shape : Shape) (row d : List ℕ) (at : ℕ) → FirstPresent row None
+    → at + length (lines_text labels shape 0 row) ≤ length d → Put d at (lines_text labels shape 0 row) d at
+lines_none labels shape row d at first room =
+    let whole = lines_text labels shape 0 row in
+    rest_done d at whole d at (rest_as d at whole d at whole [] (rest_start d at whole room) (first labels shape))
+
+module _ (labels : List ℕ) (shape : Shape) (row d : List ℕ) (at k : ℕ) (first : PresentAt row k)
     (room : at + length (lines_text labels shape 0 row) ≤ length d) where
   abbrev whole : List ℕ
   whole = lines_text labels shape 0 row
 
-  pub lines_none : length row ≤ k → Put d at (lines_text labels shape 0 row) d at
-  lines_none h =
-      rest_done d at whole d at
-      (rest_as d at whole d at whole [] (rest_start d at whole room) (first.skipped labels shape ∙ lines_end labels shape row k h))
-
-  module _ (h : k < length row) (t : ℕ) (ht : t ≡ time_of shape k) where
+  module _ (t : ℕ) (ht : t ≡ time_of shape k) where
     abbrev sample : List ℕ
     sample = sample_text t (get_or row k 0)
 
@@ -166,8 +184,8 @@ module _ (labels : List ℕ) (shape : Shape) (row d : List ℕ) (at k : ℕ) (fi
     lines_left : Rest d at whole d at ((labels ++ sample) ++ others)
     lines_left =
         rest_as d at whole d at whole ((labels ++ sample) ++ others) (rest_start d at whole room)
-        (first.skipped labels shape ∙ lines_at labels shape row k h
-        ∙ rw (line_some labels (time_of shape k) (get_or row k 0) (first.present h), ← ht))
+        (first.skipped labels shape ∙ lines_at labels shape row k first.within
+        ∙ rw (line_some labels (time_of shape k) (get_or row k 0) first.present, ← ht))
 
     head_fits : at + length labels ≤ length d
     head_fits =
@@ -210,5 +228,5 @@ module _ (labels : List ℕ) (shape : Shape) (row d : List ℕ) (at k : ℕ) (fi
             → Put d at (lines_text labels shape 0 row) d₃ r
         lines_put d₃ r p = rest_last d at whole d₂ q others d₃ r lines_left_2 (rw head_stands at p)
 
-  pub head_room : k < length row → at + length labels ≤ length d
-  head_room h = head_fits h (time_of shape k) refl
+  pub head_room : at + length labels ≤ length d
+  head_room = head_fits (time_of shape k) refl

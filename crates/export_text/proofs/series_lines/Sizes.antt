@@ -45,7 +45,7 @@ pub no_lines : (labels : List ℕ) (shape : Shape) (i : ℕ) → lines_text labe
 unfolding lines_text
 no_lines labels shape i = refl
 
-first_line : (labels : List ℕ) (shape : Shape) (i x : ℕ) (xs : List ℕ)
+pub first_line : (labels : List ℕ) (shape : Shape) (i x : ℕ) (xs : List ℕ)
     → lines_text labels shape i (x ∷ xs) ≡ line_text labels (time_of shape i) x ++ lines_text labels shape (suc i) xs
 unfolding lines_text
 first_line labels shape i x xs = refl

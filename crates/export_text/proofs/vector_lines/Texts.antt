@@ -18,10 +18,10 @@ use Rattle.side_parts.specs.Sides.{record_at, row_at, lent_series}
 use Rattle.writing.specs.Written.{Put}
 use Rattle.writing.specs.Measured.{Measured}
 use Rattle.writing.proofs.Written.{Rest, rest_start, rest_room, rest_put, rest_done, rest_as}
-use Rattle.exposed_faults.specs.declared.Fit.{Fit}
-use Rattle.exposed_faults.specs.declared.Fit.TheVariants as F
+use Rattle.std.specs.Prelude.{Result, Ok, Err}
+use Rattle.exposed_faults.specs.declared.Unfit.{Unfit}
 use Rattle.exposed_faults.specs.Fits.{fit_number}
-use Rattle.export_text.specs.declared.vector_lines.Found.TheVariants as O
+use Rattle.exposed_faults.specs.declared.Unfit.TheVariants.{BadLabels, TooLarge}
 use Rattle.export_text.specs.Found.{fault_found}
 use Rattle.export_text.proofs.vector_lines.Sides.{side_at_lem, side_end}
 
@@ -57,7 +57,7 @@ pub fault_start : (p : ℕ) (array at rows : List ℕ) → FaultLeft p array at 
 fault_start p array at rows = record { some = omega arith; same = refl }
 
 module _ (p : ℕ) (array at rows : List ℕ) (i : ℕ) (inv : FaultLeft p array at rows i) where
-  module _ (h : i < length at - 1) (s row : List ℕ) (hs : s ≡ record_at array at i) (hr : row ≡ row_at p rows i) (x : Fit)
+  module _ (h : i < length at - 1) (s row : List ℕ) (hs : s ≡ record_at array at i) (hr : row ≡ row_at p rows i) (x : Result (Unit {0}) Unfit)
       (hx : fit_number x ≡ fault_of (labels_of s) row) where
     judged : first_fault 0 (lent_series array at p rows)
         ≡ cond (eqb (fit_number x) 0) (first_fault (i + 1) (drop (i + 1) (lent_series array at p rows))) (fault (fit_number x) i)
@@ -66,17 +66,16 @@ module _ (p : ℕ) (array at rows : List ℕ) (i : ℕ) (inv : FaultLeft p array
         ∙ first_judged i (record { labels = labels_of s; row = row }) (drop (i + 1) (lent_series array at p rows))
         ∙ rw (← hx, add-one i)
 
-    pub fault_turn : x ≡ F.Fits → FaultLeft p array at rows (i + 1)
+    pub fault_turn : x ≡ Ok tt → FaultLeft p array at rows (i + 1)
     fault_turn e = record { some = omega arith; same = judged ∙ rw e }
 
-    pub found_labels : x ≡ F.BadLabels → fault_found (O.BadLabels i) ≡ first_fault 0 (lent_series array at p rows)
-    found_labels e = sym (judged ∙ rw e)
+    pub fault_first : (u : Unfit) → x ≡ Err u
+        → fault_found (Err (record { unfit = u; place = i })) ≡ first_fault 0 (lent_series array at p rows)
+    fault_first BadLabels e = sym (judged ∙ rw e)
+    fault_first TooLarge e = sym (judged ∙ rw e)
 
-    pub found_large : x ≡ F.TooLarge → fault_found (O.TooLarge i) ≡ first_fault 0 (lent_series array at p rows)
-    found_large e = sym (judged ∙ rw e)
-
-  pub found_none : length at - 1 ≤ i → fault_found O.Sound ≡ first_fault 0 (lent_series array at p rows)
-  found_none h = sym (inv.same ∙ ap (first_fault i) (side_end p array at rows i h) ∙ no_fault i)
+  pub fault_none : length at - 1 ≤ i → fault_found (Ok tt) ≡ first_fault 0 (lent_series array at p rows)
+  fault_none h = sym (inv.same ∙ ap (first_fault i) (side_end p array at rows i h) ∙ no_fault i)
 
 module _ (shape : Shape) (p : ℕ) (array at rows : List ℕ) where
   -- what is left of the text from series i on

@@ -1,15 +1,13 @@
 -- `exposed_faults::some_too_large` meets its contract. Assumes nothing.
-use Rattle.exposed_faults.proofs.Readings.{row_start, row_turn, row_large, row_done}
+use Rattle.std.proofs.Common.{◌∙◌, rules, tests}
+use Rattle.std.proofs.lemmas.Iterator.{YieldsList-from_slice}
+use Rattle.std.proofs.lemmas.Iterator.Search.{any_from_yields_List}
+use Rattle.exposition.specs.Values.{too_large}
+use Rattle.exposed_faults.proofs.Readings.{any_large}
 use Rattle.exposed_faults.proofs.some_too_large.Goals as goal
 
-pub loop-i-init : goal.loop-i-init
-loop-i-init c = search row_start
-
-pub returns-then-too_large : goal.returns-then-too_large
-returns-then-too_large c = search row_large
-
-pub loop-i-preserved : goal.loop-i-preserved
-loop-i-preserved c = search row_turn
-
 pub returns : goal.returns
-returns c = search row_done
+returns c =
+    let row = c.args.row.now in
+    let slice = YieldsList-from_slice row cc in
+    any_from_yields_List too_large _ _ _ c.any.ensures.ran slice (λ x b q k. search (rules, tests)) ∙ any_large row

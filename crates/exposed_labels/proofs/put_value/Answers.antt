@@ -3,8 +3,8 @@ use Rattle.writing.proofs.Runs.{gather_start, gather_done}
 use Rattle.exposed_labels.proofs.Values.{first_in, second_in, second_fits, behind_fits, value_put}
 use Rattle.exposed_labels.proofs.put_value.Goals as goal
 
-pub loop-i-init : goal.loop-i-init
-loop-i-init c = search gather_start
+pub loop-b-init : goal.loop-b-init
+loop-b-init c = search gather_start
 
 pub bounds-out-o : goal.bounds-out-o
 bounds-out-o c = search first_in
@@ -12,14 +12,14 @@ bounds-out-o c = search first_in
 pub overflow_add-o : goal.overflow_add-o
 overflow_add-o c = search second_fits
 
-pub bounds-out-o-in-loop-i : goal.bounds-out-o-in-loop-i
-bounds-out-o-in-loop-i c = search second_in
+pub bounds-out-o-in-loop-b : goal.bounds-out-o-in-loop-b
+bounds-out-o-in-loop-b c = search second_in
 
-pub overflow_add-o-in-loop-i : goal.overflow_add-o-in-loop-i
-overflow_add-o-in-loop-i c = search behind_fits
+pub overflow_add-o-in-loop-b : goal.overflow_add-o-in-loop-b
+overflow_add-o-in-loop-b c = search behind_fits
 
-pub loop-i-preserved : goal.loop-i-preserved
-loop-i-preserved c = search value_put
+pub loop-b-preserved : goal.loop-b-preserved
+loop-b-preserved c = search value_put
 
 pub returns : goal.returns
 returns c = search gather_done

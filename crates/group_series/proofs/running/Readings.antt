@@ -2,7 +2,7 @@
 use Rattle.std.proofs.Common.{◌≡◌, ℕ, Bool, true, false, cond, eqb, pos, sym, refl, ◌∙◌, eq-eqb, ne_eqb}
 use lib.Ieee.{Float, nan, binary64, of_bits, to_bits, div, of_int}
 use Rattle.model.specs.Reading.{missing, no_reading}
-use Rattle.model.specs.Aggregate.{Running, started, extended, included, with_reading, value_in, reading_in}
+use Rattle.model.specs.Aggregate.{started, extended, included, with_reading, value_in, reading_in}
 use Rattle.query.specs.declared.aggregations.Aggregate.{Aggregate}
 use Rattle.query.specs.declared.aggregations.Aggregate.TheVariants.{Sum, Min, Max, Count, Avg}
 use Rattle.group_series.specs.declared.running.Running as Code

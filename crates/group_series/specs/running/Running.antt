@@ -1,5 +1,5 @@
 -- The code's running aggregates, as those of the definitions. Assumes nothing.
-use Rattle.std.specs.Prelude.{◌≡◌, ℕ, not, T, ◌≢◌, is_nan}
+use Rattle.std.specs.Prelude.{ℕ, not, T, ◌≢◌, is_nan}
 use Rattle.std.specs.Float.{binary64}
 use Rattle.std.specs.Float.Ieee.{nan_bits}
 use Rattle.model.specs.Reading.{no_reading}

@@ -1,5 +1,4 @@
 -- `met` meets its contract. Assumes nothing.
-use Rattle.index_lists.proofs.Noting.{gather_length}
 use Rattle.index_lists.proofs.Meeting.{met_nowhere, met_starts, met_turn, met_ends}
 use Rattle.index_lists.proofs.met.Goals as goal
 
@@ -11,9 +10,6 @@ loop-j-init c = search met_starts
 
 pub loop-j-preserved : goal.loop-j-preserved
 loop-j-preserved c = search met_turn
-
-pub shape_of-places : goal.shape_of-places
-shape_of-places c = search gather_length
 
 pub returns : goal.returns
 returns c = search met_ends

@@ -1,16 +1,13 @@
 -- `try_lead`, `check_leads`, `list_lead` and `list_leads`. Assumes nothing.
 use Prim.Native.Nat.{ℕ, zero, suc, ◌+◌, ◌-◌, ◌*◌, ◌/◌, ◌≤◌, ◌<◌}
-use mathlib.Core.Path.{◌≡◌, refl, sym, ap, ◌∙◌}
+use mathlib.Core.Path.{◌≡◌, refl, sym, ap, subst, ◌∙◌}
 use mathlib.Core.Bool.{true, false, cond}
 use mathlib.Core.Option.{none, some}
 use mathlib.Core.List.{List, [], ◌∷◌}
 use native.Mathlib.Numerals.{add-one}
-use native.Mathlib.Nat.{mul-le-mul_right}
 use native.Mathlib.Omega.{arith}
-use mir.Syntax.{w64}
-use mir.Val.{Fits}
 use lib.Dec.{eqb, ltb}
-use lib.ListN.{length, get_or, take, drop, set, length-set, length-take, length-drop, drop_of_length-le}
+use lib.ListN.{length, get_or, take, drop, length-set, length-take, length-drop, drop_of_length-le}
 use lib.Seq.{drop-cons, get_or-take, get_or-drop, get_or-set_same, get_or-set_other, length-take-le}
 use borrow.Author.Tests.{eq-eqb, ne_eqb, ltb-true, ltb-false}
 use Rattle.model.specs.Lists.{cases}
@@ -21,12 +18,11 @@ use Rattle.plan.specs.Conclude.{or_else}
 use Rattle.plan.specs.Merging.{RowMerge, row, failed_at, on_row, merge_group, merge_lead, clash}
 use Rattle.side_parts.specs.Sides.{row_at}
 use Rattle.plan.specs.Joins.{leads_clash, lead_rows, row_code, one_place}
-use Rattle.merging.specs.declared.Merges.{Merges}
-use Rattle.merging.specs.declared.Merges.TheVariants as M
-use Rattle.merging.specs.Groups.{merges_to, MergedGroup}
+use Rattle.std.specs.Prelude.{Result, Ok, Err, ⊤, MatchResult, IsErrAnd}
+use Rattle.merging.specs.declared.Unmerged.{Unmerged}
+use Rattle.answers.specs.declared.Clash.{Clash}
 use Rattle.index_lists.specs.Places.{NotedAll}
 use Rattle.index_lists.proofs.Noting.{Noting, noting_starts, noting_turn, noting_ends}
-use Rattle.join_plan.specs.declared.join_leads.Checked.TheVariants as C
 use Rattle.row_marks.specs.Words.{ChangedIn, word_count, WordsPut, members_to, MarksAt}
 use Rattle.row_marks.specs.WordLaws.{row_marks}
 use Rattle.join_plan.specs.lead_marks.Marks.{LastAt, LastsNoted}
@@ -80,27 +76,8 @@ module _ (allowance p : ℕ) (rows : List ℕ) where
       short o = simp length-take (omega arith)
 
   pub tried_alone : (leads : List ℕ) (o l : ℕ) → l ≡ o
-      → TriedAs (merge_lead allowance p rows (take (l + 1) leads) o) M.Done
+      → TriedAs (merge_lead allowance p rows (take (l + 1) leads) o) (Ok tt)
   tried_alone leads o l e = record { answer = rw (e, lead_alone leads o) refl }
-
-pub front_held : (leads rows : List ℕ) (last p : ℕ) → last < length leads → length leads * p ≤ length rows
-    → length (take (last + 1) leads) * p ≤ length rows
-front_held leads rows last p h g =
-    let e : length (take (last + 1) leads) ≡ last + 1 = length-take-le (last + 1) leads (omega arith) in
-    let z : (last + 1) * p ≤ length leads * p = mul-le-mul_right p (omega arith) in
-    rw e (omega (arith, z, g))
-
-pub front_inside : (leads : List ℕ) (o last : ℕ) → o ≤ last → last < length leads → o < length (take (last + 1) leads)
-front_inside leads o last h g = omega (arith, h, length-take-le (last + 1) leads (omega arith))
-
-tried_from : (want : RowMerge) (r : Merges) (d : List ℕ) → merges_to r d ≡ want → TriedFrom want r
-tried_from (row x) M.Done d h = refl
-tried_from (row x) (M.FailedAt i) d h = cc
-tried_from (failed_at j x) M.Done d h = cc
-tried_from (failed_at j x) (M.FailedAt i) d h = cc
-
-pub tried_merges : (want : RowMerge) (p : ℕ) (d : List ℕ) (r : Merges) → MergedGroup want p d r → TriedAs want r
-tried_merges want p d r h = record { answer = tried_from want r d h.answer }
 
 -- the definitions, step by step
 
@@ -261,13 +238,10 @@ module _ (allowance p : ℕ) (rows : List ℕ) (first : ℕ) (leads lasts : List
         last : LastAt leads (length leads) n (get_or lasts n 0)
         last = s.noted.each n s.after h lead
 
-        pub last_behind : n ≤ get_or lasts n 0
-        last_behind = last.from
-
         pub last_inside : get_or lasts n 0 < length leads
         last_inside = last.within
 
-        module _ (r : Merges)
+        module _ (r : Result ⊤ Unmerged)
             (tried : TriedAs (merge_lead allowance (length work) rows (take (get_or lasts n 0 + 1) leads) n) r) where
           module _ (all : List ℕ) (led : LedAs all first leads) where
             step : (side : Side) → leads_clash allowance p rows side all n (drop n all)
@@ -283,42 +257,47 @@ module _ (allowance p : ℕ) (rows : List ℕ) (first : ℕ) (leads lasts : List
               ← lead_merge all first leads led allowance p rows n (get_or lasts n 0) s.after last,
             ) at tried
 
-          done_row : (side : Side) → r ≡ M.Done → (w : RowMerge) → TriedFrom w r → clash side n w ≡ none
-          done_row side e (row d) f = refl
-          done_row side e (failed_at i d) f = cc
+          -- the merges' failure told as a clash with the leader
+          module _ (x : Result ⊤ Clash) (P : Unmerged → Clash → Type 0)
+              (told : MatchResult r (λ v. x ≡ Ok v) (λ e. IsErrAnd x (P e))) where
+            done_row : (side : Side) (r : Result ⊤ Unmerged) → MatchResult r (λ v. x ≡ Ok v) (λ e. IsErrAnd x (P e))
+                → (v : ⊤) → x ≡ Ok v → (w : RowMerge) → TriedFrom w r → clash side n w ≡ none
+            done_row side r m v e (row d) f = refl
+            done_row side (Ok _) m v e (failed_at i d) f = cc
+            done_row side (Err u) m v e (failed_at i d) f = elim (subst (λ y. IsErrAnd y (P u)) e m) [ ]
 
-          failed_row : (side : Side) (i : ℕ) → r ≡ M.FailedAt i → (w : RowMerge) → TriedFrom w r
-              → clash side n w ≡ clash_as side (C.Failed n i)
-          failed_row side i e (row d) f = cc
-          failed_row side i e (failed_at j d) f = let z : j ≡ i = cc in rw z
+            pub check_done : (v : ⊤) → x ≡ Ok v → (work' : List ℕ) → length work' ≡ length work
+                → Checking allowance p rows first leads lasts work' (n + 1)
+            check_done v e work' g = record {
+              wide = g ∙ s.wide;
+              noted = s.noted;
+              after = omega (arith, s.after);
+              within = omega arith;
+              rest = λ all led side. s.rest all led side ∙ step all led side
+                  ∙ rw (done_row side r told v e (merge_lead allowance p rows all n) (t all led).answer);
+            }
 
-          pub check_done : r ≡ M.Done → (work' : List ℕ) → length work' ≡ length work
-              → Checking allowance p rows first leads lasts work' (n + 1)
-          check_done e work' g = record {
-            wide = g ∙ s.wide;
-            noted = s.noted;
-            after = omega (arith, s.after);
-            within = omega arith;
-            rest = λ all led side. s.rest all led side ∙ step all led side
-                ∙ rw (done_row side e (merge_lead allowance p rows all n) (t all led).answer);
-          }
+            failed_row : (tells : (u : Unmerged) (c : Clash) → P u c → c ≡ record { kept = n; failed = u.0 })
+                → (side : Side) (r : Result ⊤ Unmerged) → MatchResult r (λ v. x ≡ Ok v) (λ e. IsErrAnd x (P e))
+                → (c : Clash) → x ≡ Err c → (w : RowMerge) → TriedFrom w r → clash side n w ≡ clash_as side (Err c)
+            failed_row tells side (Ok v) m c e (row d) f = cc
+            failed_row tells side (Err u) m c e (row d) f = cc
+            failed_row tells side (Ok v) m c e (failed_at j d) f = cc
+            failed_row tells side (Err u) m c e (failed_at j d) f =
+                let z : j ≡ u.0 = cc in
+                rw (z, tells u c (subst (λ y. IsErrAnd y (P u)) e m))
 
-          pub check_failed : (i : ℕ) → r ≡ M.FailedAt i → ClashOf allowance p rows first leads (C.Failed n i)
-          check_failed i e = record {
-            each = λ all led side. s.rest all led side ∙ step all led side
-                ∙ rw (failed_row side i e (merge_lead allowance p rows all n) (t all led).answer);
-          }
+            pub check_failed : ((u : Unmerged) (c : Clash) → P u c → c ≡ record { kept = n; failed = u.0 })
+                → (c : Clash) → x ≡ Err c → ClashOf allowance p rows first leads (Err c)
+            check_failed tells c e = record {
+              each = λ all led side. s.rest all led side ∙ step all led side
+                  ∙ rw (failed_row tells side r told c e (merge_lead allowance p rows all n) (t all led).answer);
+            }
 
     pub work_held : length leads * p ≤ length rows → length leads * length work ≤ length rows
     work_held h = rw s.wide h
 
-    pub work_long : length work ≡ p
-    work_long = s.wide
-
-    pub work_after_lem : (work' : List ℕ) → length work' ≡ length work → length work' ≡ p
-    work_after_lem work' g = g ∙ s.wide
-
-    pub check_ends : length leads ≤ n → ClashOf allowance p rows first leads C.Done
+    pub check_ends : length leads ≤ n → ClashOf allowance p rows first leads (Ok tt)
     check_ends h = record {
       each = λ all led side. s.rest all led side
           ∙ clash_behind all first leads led side allowance p rows (length all) n h (omega arith);
@@ -370,12 +349,6 @@ module _ (m n first : ℕ) (leads lasts list₀ marks₀ : List ℕ) where
       pub leads_small : length leads ≤ 512
       leads_small = s.fit.few
 
-      pub words_fit : Fits w64 (r * 8)
-      words_fit = omega (arith, s.small, s.fit.place, s.fit.before, s.fit.few)
-
-      pub words_small : r * 8 ≤ 2097152
-      words_small = omega (arith, s.small, s.fit.place, s.fit.before, s.fit.few)
-
       pub row_fits : RowFits m o r
       row_fits = record {
         many = s.fit.place;
@@ -401,9 +374,6 @@ module _ (m n first : ℕ) (leads lasts list₀ marks₀ : List ℕ) where
       module _ (lead : get_or leads o 0 ≡ o) where
         last_here : LastAt leads (length leads) o (get_or lasts o 0)
         last_here = s.noted.each o s.after h lead
-
-        pub lead_last : get_or lasts o 0 < length leads
-        lead_last = last_here.within
 
         module _ (marks' : List ℕ) (put : WordsPut (members_to o (get_or lasts o 0) leads) o (r * 8) marks marks')
             (list' : List ℕ) (r' : ℕ) (row : NotedAll (row_code m o ∷ []) r list list' r') where
@@ -486,8 +456,3 @@ module _ (m n first : ℕ) (leads lasts list₀ marks₀ : List ℕ) where
           (rw (rows_behind all first leads led m (length all) o h (omega arith)) at (s.noting all led));
       marked = λ all led clean. record { frame = s.frame; marks = s.marked all led clean };
     }
-
--- `list_lead`
-pub lead_listed : (m o n x : ℕ) → x ≡ row_code m o → (list list' : List ℕ) → list' ≡ set list n x
-    → NotedAll (row_code m o ∷ []) n list list' (n + 1)
-lead_listed m o n x h list list' e = record { content = e ∙ ap (set list n) h; count = refl }

@@ -23,8 +23,7 @@ use Rattle.plan.specs.Joins.{Edit, same_edited_by, lead_of}
 use Rattle.record_tags.specs.Lenient.{labels_of}
 use Rattle.chosen_tags.specs.Keys.{hash_of, same_hash}
 use Rattle.set_tags.specs.edited_tags.Walks.{edited_tags}
-use Rattle.side_parts.specs.Sides.{record_at, labels_in, Positions}
-use Rattle.side_parts.specs.Lent.{RecordsHeld}
+use Rattle.side_parts.specs.Sides.{record_at, labels_in}
 use Rattle.side_parts.specs.SideLaws.{labels_at, labels_count}
 use Rattle.join_records.specs.Edits.{tags_by}
 use Rattle.join_plan.specs.lead_marks.Marks.{leads_in, Marking, NoneHashed, LeadFound, edited_hash}
@@ -344,9 +343,6 @@ module _ (join skip : Names) (many : List ℕ) (k : ℕ) (array at keys leads₀
 
 -- what calls ask
 
-pub held_positions : {array at : List ℕ} → RecordsHeld array at → Positions array at
-held_positions held = held.positions
-
 module _ {join skip : Names} {many : List ℕ} {k : ℕ} {array at keys leads₀ hashes₀ leads hashes table : List ℕ}
     {first last o : ℕ} (s : Marks join skip many k array at keys leads₀ hashes₀ leads hashes table first last o) where
   pub table_size : length table ≡ buckets
@@ -365,12 +361,6 @@ module _ {join skip : Names} {many : List ℕ} {k : ℕ} {array at keys leads₀
     pub hashes_room : o ≤ length hashes
     hashes_room = omega (arith, s.kept, s.hash_room, s.inside)
 
-    pub lead_inside : o < length leads
-    lead_inside = omega (arith, s.long, s.led_room, s.inside)
-
-    pub hash_inside : o < length hashes
-    hash_inside = omega (arith, s.kept, s.hash_room, s.inside)
-
     pub next_fits : Fits w64 (o + 1)
     next_fits = omega (arith, s.inside, s.so.few)
 
@@ -380,11 +370,6 @@ module _ {join skip : Names} {many : List ℕ} {k : ℕ} {array at keys leads₀
 
     pub fewer_left : last + 1 - (o + 1) < last + 1 - o
     fewer_left = omega (arith, h)
-
-pub hash_here : (join skip : Names) (many array at : List ℕ) (o h : ℕ) (x : List ℕ) → x ≡ record_at array at o
-    → h ≡ hash_of (edited_tags join skip many x)
-    → h ≡ edited_hash join skip many array at o
-hash_here join skip many array at o h x e f = f ∙ ap (λ (y : List ℕ). hash_of (edited_tags join skip many y)) e
 
 -- `note_lasts`: the leaders from first up to i have the last of the places before i that has them
 pub record Lasts (first : ℕ) (leads lasts₀ lasts : List ℕ) (i : ℕ) : Type 0 where
@@ -427,9 +412,6 @@ module _ (first : ℕ) (leads lasts₀ : List ℕ) where
               none = λ j p q. cases (eqb j i) (λ t. rw (eqb-true j i t) y)
                   (λ t. l.none j p (let z : j ≡ i → ⊥ = eqb-false j i t in omega (arith, q, z)));
             })
-
-    pub lasts_kept : length lasts ≡ length lasts₀
-    lasts_kept = s.kept
 
     pub lasts_end : length leads ≤ i → LastsNoted first leads lasts
     lasts_end h = record {

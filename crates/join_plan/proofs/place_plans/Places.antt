@@ -22,16 +22,13 @@ use Rattle.key_ends.specs.Ends.{EndsOf, side_first_lem, side_last_lem}
 use Rattle.index_lists.specs.Places.{NotedAll}
 use Rattle.row_marks.specs.Words.{led_behind, MarksAt}
 use Rattle.row_marks.specs.WordLaws.{bit_zero}
-use Rattle.join_plan.specs.declared.join_leads.Checked.{Checked}
-use Rattle.join_plan.specs.declared.join_leads.Checked.TheVariants as C
-use Rattle.join_plan.specs.declared.place_plans.Placed.{Placed}
-use Rattle.join_plan.specs.declared.place_plans.Placed.TheVariants.{Rows, Failed}
-use Rattle.join_plan.specs.lead_marks.Marks.{LeadsPut, LastsNoted}
-use Rattle.join_plan.specs.join_leads.Checks.{LedAs, ClashOf, CodesFit, RowFits, RowsMarked, RowsListed}
+use Rattle.std.specs.Prelude.{Result, Ok, ⊤}
+use Rattle.answers.specs.declared.Clash.{Clash}
+use Rattle.join_plan.specs.lead_marks.Marks.{LastsNoted}
+use Rattle.join_plan.specs.join_leads.Checks.{LedAs, ClashOf, RowFits, RowsMarked, RowsListed}
 use Rattle.join_plan.specs.place_plans.Places.{LeadsMarked, PlaceNotes, sole_leads, LeadsPlanned}
 use Rattle.join_plan.specs.place_plans.Places.{PlaceLeads, PlaceDone, PlaceMarked, PlaceHeld}
 use Rattle.join_plan.proofs.lead_marks.Leaders.{leads_among_long, leads_among_at}
-use Rattle.join_plan.proofs.join_leads.Checking.{front_held}
 use Rattle.join_plan.proofs.join_leads.Sole.{sole_long, sole_clash, nowhere_rows, sole_rows, not_led, sole_leads_lem}
 
 -- of two slices in an array
@@ -39,55 +36,34 @@ use Rattle.join_plan.proofs.join_leads.Sole.{sole_long, sole_clash, nowhere_rows
 pub first_there : 0 < 2
 first_there = omega arith
 
-pub second_there : 1 < 2
-second_there = omega arith
-
 -- `plan_leads`
 
 noted_rows : (rows : List ℕ) (n : ℕ) (before after : List ℕ) (c : ℕ) → NotedAll rows n before after c
-    → PlaceNotes rows before n after (Rows c)
+    → PlaceNotes rows before n after (Ok c)
 noted_rows rows n before after c h = record {
   noted = λ d f. (let z : c ≡ d = cc in rw (← z) h);
-  stopped = λ d i f. absurd (let z : ◌≡◌ {A = ℕ} 0 1 = cc in omega arith);
+  stopped = λ d f. absurd (let z : ◌≡◌ {A = ℕ} 0 1 = cc in omega arith);
   long = ap length h.content ∙ length-sets before n rows;
 }
 
 marked_rows : (leads list : List ℕ) (n : ℕ) (before after : List ℕ) (c : ℕ) → RowsMarked leads list n c before after
-    → LeadsMarked leads list n before after (Rows c)
+    → LeadsMarked leads list n before after (Ok c)
 marked_rows leads list n before after c h = record {
   rows = λ d f. (let z : c ≡ d = cc in rw (← z) h);
-  stopped = λ d i f. absurd (let z : ◌≡◌ {A = ℕ} 0 1 = cc in omega arith);
+  stopped = λ d f. absurd (let z : ◌≡◌ {A = ℕ} 0 1 = cc in omega arith);
   long = h.frame.long;
 }
 
-module _ (allowance m n p : ℕ) (rows : List ℕ) (first : ℕ) (leads list₀ marks₀ : List ℕ) (x : Checked)
+module _ (allowance m n p : ℕ) (rows : List ℕ) (first : ℕ) (leads list₀ marks₀ : List ℕ) (x : Result ⊤ Clash)
     (h : ClashOf allowance p rows first leads x) where
-  pub leads_planned : x ≡ C.Done → (list marks : List ℕ) (c : ℕ)
+  pub leads_planned : x ≡ Ok tt → (list marks : List ℕ) (c : ℕ)
       → RowsListed m n first leads list₀ marks₀ list marks c
-      → LeadsPlanned allowance m n p rows first leads list₀ marks₀ list marks (Rows c)
+      → LeadsPlanned allowance m n p rows first leads list₀ marks₀ list marks (Ok c)
   leads_planned e list marks c k = record {
     each = λ all led clean. record {
       clash = λ side. h.each all led side ∙ rw e;
       notes = noted_rows (lead_rows m 0 all) n list₀ list c (k.rows all led);
       marked = marked_rows all list n marks₀ marks c (k.marked all led clean.each);
-    };
-  }
-
-  pub leads_failed : (k i : ℕ) → x ≡ C.Failed k i
-      → LeadsPlanned allowance m n p rows first leads list₀ marks₀ list₀ marks₀ (Failed k i)
-  leads_failed k i e = record {
-    each = λ all led clean. record {
-      clash = λ side. h.each all led side ∙ rw e;
-      notes = record {
-        noted = λ d f. absurd (let z : ◌≡◌ {A = ℕ} 0 1 = cc in omega arith);
-        stopped = λ d j f. refl;
-        long = refl;
-      };
-      marked = record {
-        rows = λ d f. absurd (let z : ◌≡◌ {A = ℕ} 0 1 = cc in omega arith);
-        stopped = λ d j f. refl;
-        long = refl;
-      };
     };
   }
 
@@ -116,43 +92,17 @@ module _ (m c n p : ℕ) (rows leads lasts marks₀ : List ℕ) (held : PlaceHel
       pub end_inside : last + 1 ≤ length leads
       end_inside = omega (arith, last_inside)
 
-      pub end_fits : Fits w64 (last + 1)
-      end_fits = omega (arith, last_inside, held.few)
-
       front : length (take (last + 1) leads) ≡ last + 1
       front = length-take-le (last + 1) leads end_inside
 
-      pub lasts_noted : LastsNoted first (take (last + 1) leads) lasts
-      lasts_noted = rw (hf, hl) (held.noted apart)
-
-      pub first_inside : first ≤ length (take (last + 1) leads)
-      first_inside = omega (arith, front, hf, hl, held.order)
-
       pub lasts_room : length (take (last + 1) leads) ≤ length lasts
       lasts_room = omega (arith, front, last_inside, held.room)
-
-      pub leads_fit : CodesFit m n (take (last + 1) leads)
-      leads_fit = record {
-        place = held.place;
-        before = held.before;
-        few = omega (arith, front, last_inside, held.few);
-      }
-
-      pub leads_held : length (take (last + 1) leads) * p ≤ length rows
-      leads_held = front_held leads rows last p last_inside held.held
-
-      pub several_planned : (allowance : ℕ) (list₀ list marks : List ℕ) (v : Placed)
-          → LeadsPlanned allowance m n p rows first (take (last + 1) leads) list₀ marks₀ list marks v
-          → PlaceDone allowance m c n p rows leads list₀ marks₀ list marks v
-      several_planned allowance list₀ list marks v h = record {
-        each = λ all led. h.each all (rw (hf, hl) (led.several apart)) held.clean;
-      }
 
     module _ (e : first ≡ last) (allowance : ℕ) (list₀ : List ℕ) where
       sole_planned : (list : List ℕ) (r : ℕ) → NotedAll (lead_rows m 0 (sole_leads first 0 (length leads))) n list₀ list r
           → ((i : ℕ) → n ≤ i → i < r → i < length list
           → MarksAt (sole_leads first 0 (length leads)) (one_place (get_or list i 0)) (i * 8) marks₀)
-          → PlaceDone allowance m c n p rows leads list₀ marks₀ list marks₀ (Rows r)
+          → PlaceDone allowance m c n p rows leads list₀ marks₀ list marks₀ (Ok r)
       sole_planned list r noted marks = record {
         each = λ all led. rw (led.sole (sym hf ∙ e ∙ hl), ← hf) (record {
           clash = λ side. sole_clash first (length leads) held.few allowance p rows side;
@@ -166,7 +116,7 @@ module _ (m c n p : ℕ) (rows leads lasts marks₀ : List ℕ) (held : PlaceHel
       }
 
       pub none_planned : first ≡ length leads
-          → PlaceDone allowance m c n p rows leads list₀ marks₀ list₀ marks₀ (Rows n)
+          → PlaceDone allowance m c n p rows leads list₀ marks₀ list₀ marks₀ (Ok n)
       none_planned f =
           sole_planned list₀ n
           (rw (nowhere_rows first m (length leads) 0 (omega (arith, f)) (omega (arith, held.few)))
@@ -175,7 +125,7 @@ module _ (m c n p : ℕ) (rows leads lasts marks₀ : List ℕ) (held : PlaceHel
 
       pub one_planned : (first ≡ length leads → ⊥) → (list : List ℕ) (r : ℕ)
           → NotedAll (row_code m first ∷ []) n list₀ list r
-          → PlaceDone allowance m c n p rows leads list₀ marks₀ list marks₀ (Rows r)
+          → PlaceDone allowance m c n p rows leads list₀ marks₀ list marks₀ (Ok r)
       one_planned f list r noted =
           sole_planned list r
           (rw (sole_rows first m (length leads) 0 (omega arith) (omega (arith, inside f)) (omega (arith, held.few)))
@@ -248,10 +198,6 @@ module _ (keys : List ℕ) (k c : ℕ) (ends : EndsOf keys k c) where
 module _ (c : ℕ) (all leads lasts : List ℕ) (first last : ℕ) (hf : first ≡ side_first c) (hl : last ≡ side_last c) where
   pub unmarked_leads : first ≡ last → PlaceMarked c all leads lasts
   unmarked_leads e = record { led = λ f. absurd (f (sym hf ∙ e ∙ hl)); noted = λ f. absurd (f (sym hf ∙ e ∙ hl)) }
-
-  pub marked_leads : LeadsPut first last all leads → LastsNoted first (take (last + 1) leads) lasts
-      → PlaceMarked c all leads lasts
-  marked_leads led noted = record { led = λ f. rw (← hf, ← hl) led; noted = λ f. rw (← hf, ← hl) noted }
 
 -- the leaders so marked are those of the key
 module _ (edit : Edit) (m : Labels) (keys : List ℕ) (k c : ℕ) (ends : EndsOf keys k c) (labels : List Labels)

@@ -1,5 +1,5 @@
 -- What the merges of a many-side series come to, and that its answer rows can be noted. Assumes nothing.
-use Rattle.std.specs.Prelude.{ℕ, ◌+◌, ◌*◌, ◌≤◌, ◌<◌, ◌≡◌, List, length, get_or}
+use Rattle.std.specs.Prelude.{ℕ, ◌+◌, ◌*◌, ◌≤◌, ◌<◌, ◌≡◌, List, length, get_or, Result, Ok, Err, ⊤}
 use Rattle.std.proofs.Math.Option.{Option, none, some}
 use Rattle.model.specs.Limits.{max_series}
 use Rattle.model.specs.Query.{Side}
@@ -8,25 +8,23 @@ use Rattle.plan.specs.Merging.{RowMerge, row, failed_at}
 use Rattle.plan.specs.Keys.{dropped}
 use Rattle.plan.specs.Joins.{leads_clash, lead_rows, one_place}
 use Rattle.answers.specs.Plans.{duplicate}
-use Rattle.merging.specs.declared.Merges.{Merges}
-use Rattle.merging.specs.declared.Merges.TheVariants as M
+use Rattle.merging.specs.declared.Unmerged.{Unmerged}
+use Rattle.answers.specs.declared.Clash.{Clash}
 use Rattle.index_lists.specs.Places.{NotedAll}
 use Rattle.row_marks.specs.Words.{ChangedIn, MarksAt}
-use Rattle.join_plan.specs.declared.join_leads.Checked.{Checked}
-use Rattle.join_plan.specs.declared.join_leads.Checked.TheVariants as C
 
 -- merges that are to come to `want` answer r; their row is not kept
-abbrev pub TriedFrom : RowMerge → Merges → Type 0
-TriedFrom (row d) r = r ≡ M.Done
-TriedFrom (failed_at i d) r = r ≡ M.FailedAt i
+abbrev pub TriedFrom : RowMerge → Result ⊤ Unmerged → Type 0
+TriedFrom (row d) r = r ≡ Ok tt
+TriedFrom (failed_at i d) r = r ≡ Err (record { 0 = i })
 
-pub record TriedAs (want : RowMerge) (r : Merges) : Type 0 where
+pub record TriedAs (want : RowMerge) (r : Result ⊤ Unmerged) : Type 0 where
   pub answer : TriedFrom want r
 
 -- 01: fields are the input places of the series kept and the one that failed to merge
-abbrev pub clash_as : Side → Checked → Option Duplicate
-clash_as side C.Done = none
-clash_as side (C.Failed k i) = some (duplicate side k i)
+abbrev pub clash_as : Side → Result ⊤ Clash → Option Duplicate
+clash_as side (Ok _) = none
+clash_as side (Err c) = some (duplicate side c.kept c.failed)
 
 -- of the leaders of all places those from first on stand in `leads`; no other place has a leader
 pub record LedAs (all : List ℕ) (first : ℕ) (leads : List ℕ) : Type 0 where
@@ -37,7 +35,7 @@ pub record LedAs (all : List ℕ) (first : ℕ) (leads : List ℕ) : Type 0 wher
   pub behind : (i : ℕ) → length leads ≤ i → i < length all → get_or all i 0 ≡ dropped
 
 -- the first clash behind leaders, whichever side they are on
-pub record ClashOf (allowance p : ℕ) (rows : List ℕ) (first : ℕ) (leads : List ℕ) (r : Checked) : Type 0 where
+pub record ClashOf (allowance p : ℕ) (rows : List ℕ) (first : ℕ) (leads : List ℕ) (r : Result ⊤ Clash) : Type 0 where
   pub each : (all : List ℕ) → LedAs all first leads → (side : Side)
       → leads_clash allowance p rows side all 0 all ≡ clash_as side r
 

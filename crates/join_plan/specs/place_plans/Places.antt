@@ -1,5 +1,5 @@
 -- One many-side place of a join planned: its clash, or its answer rows noted and marked. Assumes nothing.
-use Rattle.std.specs.Prelude.{ℕ, zero, suc, ◌+◌, ◌*◌, ◌≤◌, ◌<◌, ◌≡◌, cond, List, [], ◌∷◌, eqb, length, get_or, take}
+use Rattle.std.specs.Prelude.{ℕ, zero, suc, ◌+◌, ◌*◌, ◌≤◌, ◌<◌, ◌≡◌, cond, List, [], ◌∷◌, eqb, length, get_or, take, Result, Ok, Err}
 use Rattle.std.proofs.Math.Option.{Option, none, some}
 use Rattle.model.specs.Limits.{max_series}
 use Rattle.model.specs.Query.{Side}
@@ -11,32 +11,31 @@ use Rattle.end_codes.specs.Codes.{side_first, side_last}
 use Rattle.index_lists.specs.Places.{NotedAll}
 use Rattle.join_plan.specs.lead_marks.Marks.{LeadsPut, LastsNoted}
 use Rattle.join_plan.specs.join_leads.Checks.{LedAs, RowsMarked}
-use Rattle.join_plan.specs.declared.place_plans.Placed.{Placed}
-use Rattle.join_plan.specs.declared.place_plans.Placed.TheVariants.{Rows, Failed}
+use Rattle.answers.specs.declared.Clash.{Clash}
 
 -- no mark stands from the row n on
 pub record Clean (n : ℕ) (marks : List ℕ) : Type 0 where
   pub each : (i : ℕ) → n * 8 ≤ i → get_or marks i 0 ≡ 0
 
 -- the clash that is told, on the one side
-abbrev pub place_clash : Side → Placed → Option Duplicate
-place_clash side (Rows n) = none
-place_clash side (Failed k i) = some (duplicate side k i)
+abbrev pub place_clash : Side → Result ℕ Clash → Option Duplicate
+place_clash side (Ok n) = none
+place_clash side (Err c) = some (duplicate side c.kept c.failed)
 
 -- rows are noted behind the n before; at a clash none is
-pub record PlaceNotes (rows before : List ℕ) (n : ℕ) (after : List ℕ) (r : Placed) : Type 0 where
-  pub noted : (c : ℕ) → r ≡ Rows c → NotedAll rows n before after c
-  pub stopped : (k i : ℕ) → r ≡ Failed k i → after ≡ before
+pub record PlaceNotes (rows before : List ℕ) (n : ℕ) (after : List ℕ) (r : Result ℕ Clash) : Type 0 where
+  pub noted : (c : ℕ) → r ≡ Ok c → NotedAll rows n before after c
+  pub stopped : (d : Clash) → r ≡ Err d → after ≡ before
   pub long : length after ≡ length before
 
 -- the marks of the rows that are noted behind the n before, by leaders
-pub record LeadsMarked (leads list : List ℕ) (n : ℕ) (before after : List ℕ) (r : Placed) : Type 0 where
-  pub rows : (c : ℕ) → r ≡ Rows c → RowsMarked leads list n c before after
-  pub stopped : (k i : ℕ) → r ≡ Failed k i → after ≡ before
+pub record LeadsMarked (leads list : List ℕ) (n : ℕ) (before after : List ℕ) (r : Result ℕ Clash) : Type 0 where
+  pub rows : (c : ℕ) → r ≡ Ok c → RowsMarked leads list n c before after
+  pub stopped : (d : Clash) → r ≡ Err d → after ≡ before
   pub long : length after ≡ length before
 
 -- the place m by its leaders: all their merges are tried before a row is noted
-pub record PlacePlanned (allowance m n p : ℕ) (rows leads list₀ marks₀ list marks : List ℕ) (r : Placed) : Type 0 where
+pub record PlacePlanned (allowance m n p : ℕ) (rows leads list₀ marks₀ list marks : List ℕ) (r : Result ℕ Clash) : Type 0 where
   pub clash : (side : Side) → leads_clash allowance p rows side leads 0 leads ≡ place_clash side r
   pub notes : PlaceNotes (lead_rows m 0 leads) list₀ n list r
   pub marked : LeadsMarked leads list n marks₀ marks r
@@ -48,7 +47,7 @@ sole_leads f i (suc n) = cond (eqb i f) f dropped ∷ sole_leads f (suc i) n
 
 -- by leaders of which those from first on stand in `leads`, where no mark stood behind the n rows before
 pub record LeadsPlanned (allowance m n p : ℕ) (rows : List ℕ) (first : ℕ) (leads list₀ marks₀ list marks : List ℕ)
-    (r : Placed) : Type 0 where
+    (r : Result ℕ Clash) : Type 0 where
   pub each : (all : List ℕ) → LedAs all first leads → Clean n marks₀
       → PlacePlanned allowance m n p rows all list₀ marks₀ list marks r
 
@@ -59,7 +58,7 @@ pub record PlaceLeads (all : List ℕ) (c : ℕ) (leads : List ℕ) : Type 0 whe
   pub several : (side_first c ≡ side_last c → ⊥) → LedAs all (side_first c) (take (side_last c + 1) leads)
 
 -- the place m by the leaders of its key, whose code is c
-pub record PlaceDone (allowance m c n p : ℕ) (rows leads list₀ marks₀ list marks : List ℕ) (r : Placed) : Type 0 where
+pub record PlaceDone (allowance m c n p : ℕ) (rows leads list₀ marks₀ list marks : List ℕ) (r : Result ℕ Clash) : Type 0 where
   pub each : (all : List ℕ) → PlaceLeads all c leads
       → PlacePlanned allowance m n p rows all list₀ marks₀ list marks r
 

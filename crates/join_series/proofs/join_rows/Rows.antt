@@ -6,8 +6,6 @@ use mathlib.Core.List.{List, ◌++◌}
 use native.Mathlib.Omega.{arith}
 use lib.ListN.{length, take, drop, length-append, length-drop}
 use lib.Seq.{length-take-le, take_at}
-use Rattle.model.specs.Reading.{scalar_op}
-use Rattle.model.specs.Row.{zip_with}
 use Rattle.plan.specs.Joins.{many_place, one_place}
 use Rattle.side_parts.specs.Sides.{row_at}
 use Rattle.side_parts.specs.Lent.{Sides, BothRowsHeld}
@@ -19,17 +17,6 @@ use Rattle.row_marks.specs.WordLaws.{unmarked_row}
 use Rattle.join_series.specs.declared.Work.{Work}
 use Rattle.join_series.specs.Works.{worked_row}
 use Rattle.join_series.specs.join_rows.Rows.{JoinCode, marked_row, coded_join_row, work_after}
-
--- `apply_join`
-
-module _ (w : Work) (many one out : List ℕ) where
-  pub applied_left : w.left ≡ true → out ≡ zip_with (scalar_op w.operator w.as_bool) many one
-      → out ≡ worked_row w many one
-  applied_left h e = rw h e
-
-  pub applied_right : w.left ≡ false → out ≡ zip_with (scalar_op w.operator w.as_bool) one many
-      → out ≡ worked_row w many one
-  applied_right h e = rw h e
 
 -- `put_join_row`
 

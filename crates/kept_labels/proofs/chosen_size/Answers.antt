@@ -1,26 +1,21 @@
 -- `kept_labels::chosen_size` meets its contract. Assumes nothing.
-use Rattle.chosen_tags.specs.Keys.{key_sieve}
-use Rattle.record_tags.proofs.Cursors.{span_order, next_fewer}
-use Rattle.kept_labels.proofs.Sizes.{tally_start, tally_done, tally_one, tally_tags_fit, tally_bytes_fit}
+use Rattle.std.proofs.Common.{rules, ap, ◌∙◌}
+use Rattle.chosen_tags.specs.Chosen.{chosen_left}
+use Rattle.kept_labels.proofs.Sizes.{tally_start, tally_done, tally_one, tally_tags_fit, tally_bytes_fit, key_within}
 use Rattle.kept_labels.proofs.chosen_size.Goals as goal
 
-pub loop-start-init : goal.loop-start-init
-loop-start-init c = tally_start _ _ (key_sieve _ _) _ _ _ c.tags_of-t.ensures.tags c.tags_of-t.ensures.few
-
-pub returns-in_default : goal.returns-in_default
-returns-in_default c = search tally_done
+pub loop-tag-init : goal.loop-tag-init
+loop-tag-init c =
+    tally_start _ _ _ (ap chosen_left c.into_iter-tag-iterator.ensures.into_iter_gives ∙ c.chosen_of-tag-items.ensures) (key_within _ _ _)
 
 pub overflow_add-tags : goal.overflow_add-tags
-overflow_add-tags c = search tally_tags_fit
-
-pub overflow_sub-bytes : goal.overflow_sub-bytes
-overflow_sub-bytes c = search span_order
+overflow_add-tags c = tally_tags_fit _ _ _ _ _ c.loop-tag.invariant _ _ c.in-Some.ensures.steps _ c.in-Some.tag.whole (search rules)
 
 pub overflow_add-bytes : goal.overflow_add-bytes
-overflow_add-bytes c = search tally_bytes_fit
+overflow_add-bytes c = tally_bytes_fit _ _ _ _ _ c.loop-tag.invariant _ _ c.in-Some.ensures.steps _ c.in-Some.tag.whole (search rules)
 
-pub loop-start-smaller : goal.loop-start-smaller
-loop-start-smaller c = search next_fewer
+pub loop-tag-preserved : goal.loop-tag-preserved
+loop-tag-preserved c = tally_one _ _ _ _ _ c.loop-tag.invariant _ _ c.in-Some.ensures.steps _ c.in-Some.tag.whole
 
-pub loop-start-preserved : goal.loop-start-preserved
-loop-start-preserved c = search tally_one
+pub returns : goal.returns
+returns c = tally_done _ _ _ _ _ c.loop-tag.invariant c.in-None.ensures.steps.0

@@ -14,7 +14,7 @@ use Rattle.model.specs.Query.{Matching}
 use Rattle.model.proofs.Laws.Lists.{map_at}
 use Rattle.labels.specs.Names.{names_of}
 use Rattle.record_tags.specs.Lenient.{labels_of}
-use Rattle.side_parts.specs.Sides.{record_at, labels_in, Positions}
+use Rattle.side_parts.specs.Sides.{record_at, labels_in}
 use Rattle.side_parts.specs.SideLaws.{labels_at, labels_count}
 use Rattle.key_numbers.specs.key_lookup.Firsts.{first_yes, first_no, first_none, first_within, first_left, first_right}
 use Rattle.key_numbers.specs.key_lookup.Keys.{same_keys, first_place, key_hash, Hashed}
@@ -29,9 +29,6 @@ module _ (named : Bool) (m : Matching) (list array at hashes : List ℕ)
     (s : Hashed named m (names_of list) array at hashes) where
   pub side_count : length (labels_in array at) ≡ length hashes
   side_count = labels_count array at ∙ (omega (arith, s.count))
-
-  pub side_positions : Positions array at
-  side_positions = s.positions
 
   module _ (i : ℕ) (h : i < length hashes) where
     pub find_inside : i + 1 < length at
@@ -93,8 +90,8 @@ module _ (named : Bool) (m : Matching) (list array at hashes : List ℕ)
         (first_none (λ k. same_keys named m (names_of list) k (labels_of rec)))
 
     pub find_ends : (i : ℕ) → Finding named m list array at hashes rec i → length hashes ≤ i
-        → i ≡ first_place named m (names_of list) (labels_in array at) (labels_of rec)
-    find_ends i f h = omega (arith, f.rest, none_left i h)
+        → length hashes ≡ first_place named m (names_of list) (labels_in array at) (labels_of rec)
+    find_ends i f h = omega (arith, f.rest, f.within, none_left i h)
 
 -- the left side first, else behind it
 

@@ -1,11 +1,6 @@
 -- `key_numbers::note_hashes` meets its contract. Assumes nothing.
-use Prim.Native.Nat.{◌-◌}
-use lib.ListN.{length}
 use Rattle.key_numbers.proofs.key_lookup.Noting.{Noting}
 use Rattle.key_numbers.proofs.note_hashes.Given as goal
 
 abbrev pub invariant-loop-i : goal.invariant-loop-i
 invariant-loop-i l = Noting l.hashes l.i l.table
-
-abbrev pub decreases-loop-i : goal.decreases-loop-i
-decreases-loop-i l = length l.hashes - l.i

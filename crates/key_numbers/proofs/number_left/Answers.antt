@@ -1,9 +1,6 @@
 -- `key_numbers::number_left` meets its contract. Assumes nothing.
-use Rattle.key_numbers.proofs.Numbering.{one_position, none_hashed, none_before}
+use Rattle.key_numbers.proofs.Numbering.{none_hashed, none_before}
 use Rattle.key_numbers.proofs.number_left.Goals as goal
-
-pub slice_bounds-number_right-end : goal.slice_bounds-number_right-end
-slice_bounds-number_right-end c = search one_position
 
 pub number_right-requires-clause-hashed : goal.number_right-requires-clause-hashed
 number_right-requires-clause-hashed c = search none_hashed

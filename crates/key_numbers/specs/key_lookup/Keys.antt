@@ -1,12 +1,10 @@
 -- Keys numbered by their first place, over both sides. Assumes nothing.
 use Rattle.std.specs.Prelude.{ℕ, ◌+◌, ◌≡◌, Bool, true, false, List, ◌∷◌, ◌++◌, map, length}
-use Rattle.std.specs.Borrow.{Bor}
 use Rattle.model.specs.Labels.{Tag, Labels, name_label, same_bytes, same_tags}
 use Rattle.model.specs.Edits.{Names}
 use Rattle.model.specs.Query.{Matching, key_of}
 use Rattle.chosen_tags.specs.Keys.{hash_bytes, hash_of}
 use Rattle.side_parts.specs.Sides.{labels_in, Positions}
-use Rattle.side_parts.specs.Lent.{lent}
 use Rattle.key_numbers.specs.key_lookup.Firsts.{first_where}
 
 -- The key of a series: the tags that the matching chooses, with the name in front as the tag of its label, or without.
@@ -43,17 +41,6 @@ pub record Hashed (named : Bool) (m : Matching) (ns : Names) (array at hashes : 
   pub positions : Positions array at
   pub count : length at ≡ length hashes + 1
   pub alike : hashes ≡ key_hashes named m ns (labels_in array at)
-
--- label arrays and positions, each of the left side and of the right
-
-pub record BothHashed (named : Bool) (m : Matching) (ns : Names) (arrays at : List (Bor (List ℕ)))
-    (left_hashes hashes : List ℕ) : Type 0 where
-  pub left : Hashed named m ns (lent arrays 0) (lent at 0) left_hashes
-  pub right : Hashed named m ns (lent arrays 1) (lent at 1) hashes
-
--- the labels of both sides, one behind another
-abbrev pub labels_over : List (Bor (List ℕ)) → List (Bor (List ℕ)) → List Labels
-labels_over arrays at = labels_in (lent arrays 0) (lent at 0) ++ labels_in (lent arrays 1) (lent at 1)
 
 -- a side's keys, numbered among those of `before` and its own
 pub record Numbered (named : Bool) (m : Matching) (ns : Names) (before : List Labels) (array at hashes keys : List ℕ)

@@ -1,15 +1,8 @@
 -- `first_of` meets its contract. Assumes nothing.
-use Rattle.key_places.proofs.Searches.{first_starts, first_turn, first_here, first_ends}
+use mathlib.Core.Path.{◌∙◌}
+use borrow.Author.Rules.{rules}
+use Rattle.key_places.proofs.Searches.{first_told}
 use Rattle.key_places.proofs.first_of.Goals as goal
 
-pub loop-i-init : goal.loop-i-init
-loop-i-init c = search first_starts
-
-pub returns-then-keys-i : goal.returns-then-keys-i
-returns-then-keys-i c = search first_here
-
-pub loop-i-preserved : goal.loop-i-preserved
-loop-i-preserved c = search first_turn
-
 pub returns : goal.returns
-returns c = search first_ends
+returns c = c.unwrap_or.ensures ∙ first_told c.args.keys.now c.args.k c.position.result (search rules)

@@ -1,16 +1,10 @@
--- `kept_or_dropped` and `drop_missing`: what is renumbered, then what is left. Assumes nothing.
-use Prim.Native.Nat.{ℕ, suc, ◌+◌, ◌-◌, ◌*◌, ◌≤◌, ◌<◌}
-use mathlib.Core.Path.{◌≡◌, refl, sym, ap, ◌∙◌}
-use mathlib.Core.Bool.{Bool, true, false}
-use mathlib.Core.List.{List, ◌++◌, append-nil}
-use native.Mathlib.Numerals.{add-one}
-use native.Mathlib.Nat.{le_refl, mul-le-mul_right, suc-mul}
-use native.Mathlib.Omega.{arith}
-use lib.ListN.{length, get_or, take, drop, set, length-set, drop_of_length-le}
-use lib.Seq.{drop-cons, take-suc-set, drop-set-lt, append_snoc, take_all, drop-drop}
+-- `kept_or_dropped` and `drop_missing`: each key is renumbered by its row. Assumes nothing.
+use Rattle.std.proofs.Common.{◌≡◌, ◌∙◌, sym, ℕ, ◌+◌, ◌*◌, ◌<◌, ◌≤◌, Bool, true, false, List, length, get_or, arith}
+use Rattle.std.proofs.lemmas.List.{ext_get_or}
 use Rattle.model.specs.Row.{only_missing}
 use Rattle.side_parts.specs.Sides.{row_at}
-use Rattle.keyed_sides.specs.Dropped.{kept_number, dropped_missing}
+use Rattle.side_parts.specs.SideLaws as Rows
+use Rattle.keyed_sides.specs.Dropped.{kept_number, dropped_missing, dropped_count, dropped_at}
 
 pub row_gone : (row : List ℕ) (k : ℕ) (b : Bool) → b ≡ only_missing row → b ≡ true → 1024 ≡ kept_number row k
 row_gone row k b h e = rw (← h, e)
@@ -18,42 +12,19 @@ row_gone row k b h e = rw (← h, e)
 pub row_stays : (row : List ℕ) (k : ℕ) (b : Bool) → b ≡ only_missing row → b ≡ false → k ≡ kept_number row k
 row_stays row k b h e = rw (← h, e)
 
--- i keys are renumbered
-pub record Dropping (rows : List ℕ) (p : ℕ) (before keys : List ℕ) (i : ℕ) : Type 0 where
-  pub long : length keys ≡ length before
-  pub within : i ≤ length keys
-  pub rest : take i keys ++ dropped_missing p (drop (i * p) rows) (drop i keys) ≡ dropped_missing p rows before
-
 module _ (rows : List ℕ) (p : ℕ) (before : List ℕ) where
-  pub drop-starts : Dropping rows p before before 0
-  drop-starts = let z : 0 * p ≡ 0 = omega arith in record { long = refl; within = omega arith; rest = rw z }
+  pub drop-room : (i : ℕ) → i < length before → length rows ≡ length before * p → i * p + p ≤ length rows
+  drop-room i h e = rw e (Rows.row_in i (length before) p h)
 
-  module _ (keys : List ℕ) (i : ℕ) (d : Dropping rows p before keys i) where
-    module _ (h : i < length keys) where
-      pub drop-room : length rows ≡ length before * p → i * p + p ≤ length rows
-      drop-room e =
-          let m : suc i * p ≤ length before * p = mul-le-mul_right p (omega (arith, d.long)) in
-          omega (arith, m, suc-mul i p)
+  -- the keys so far are renumbered
+  abbrev pub Dropping : List ℕ → ℕ → Type 0
+  Dropping keys i =
+      ((k : ℕ) → k < i → get_or keys k 0 ≡ kept_number (row_at p rows k) (get_or before k 0))
+      × ((k : ℕ) → i ≤ k → get_or keys k 0 ≡ get_or before k 0)
 
-      drop-step : (v : ℕ) → v ≡ kept_number (row_at p rows i) (get_or keys i 0)
-          → take (i + 1) (set keys i v) ++ dropped_missing p (drop ((i + 1) * p) rows) (drop (i + 1) (set keys i v))
-          ≡ take i keys ++ dropped_missing p (drop (i * p) rows) (drop i keys)
-      unfolding dropped_missing
-      drop-step v e =
-          let lt : i < suc i = le_refl (suc i) in
-          let next : drop (suc i * p) rows ≡ drop p (drop (i * p) rows) = ap (λ (n : ℕ). drop n rows) (suc-mul i p) ∙ sym (drop-drop p (i * p) rows) in
-          rw (e, add-one, take-suc-set, drop-set-lt, append_snoc, next, drop-cons keys i 0)
-
-      pub drop-turn : (row : List ℕ) → row ≡ row_at p rows i → (v : ℕ) → v ≡ kept_number row (get_or keys i 0) → Dropping rows p before (set keys i v) (i + 1)
-      drop-turn row hr v e = record {
-        long = simp length-set d.long;
-        within = simp length-set (omega arith);
-        rest = drop-step v (e ∙ ap (λ (x : List ℕ). kept_number x (get_or keys i 0)) hr) ∙ d.rest;
-      }
-
-    drop-over : length keys ≤ i → take i keys ++ dropped_missing p (drop (i * p) rows) (drop i keys) ≡ keys
-    unfolding dropped_missing
-    drop-over h = rw (take_all, drop_of_length-le keys, append-nil)
-
-    pub drop-ends : length keys ≤ i → keys ≡ dropped_missing p rows before
-    drop-ends h = sym (drop-over h) ∙ d.rest
+  pub drop-ends : (keys : List ℕ) → length keys ≡ length before
+      → ((k : ℕ) → k < length keys → get_or keys k 0 ≡ kept_number (row_at p rows k) (get_or before k 0))
+      → keys ≡ dropped_missing p rows before
+  drop-ends keys long each =
+      ext_get_or 0 keys (dropped_missing p rows before) (long ∙ sym (dropped_count p rows before))
+      (λ k h. each k h ∙ sym (dropped_at p rows before k (omega arith)))

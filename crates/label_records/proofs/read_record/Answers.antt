@@ -1,19 +1,17 @@
 -- `label_records::read_record` meets its contract. Assumes nothing.
-use Rattle.fields.proofs.Fields.{byte_fits}
+use Rattle.std.proofs.Common.{rules}
 use Rattle.label_records.proofs.RecordsRead.{record_unnamed, record_uncounted, record_many, record_judged}
 use Rattle.label_records.proofs.read_record.Goals as goal
 
-pub returns-in_default : goal.returns-in_default
-returns-in_default c = search record_unnamed
+pub returns-in_err-name : goal.returns-in_err-name
+returns-in_err-name c = search (rules, record_unnamed)
 
-pub returns-then-s-end : goal.returns-then-s-end
-returns-then-s-end c = search record_uncounted
-
-pub overflow_cast-n : goal.overflow_cast-n
-overflow_cast-n c = search byte_fits
+pub returns-in_err-count : goal.returns-in_err-count
+returns-in_err-count c = search (rules, record_uncounted)
 
 pub returns-then-n-gt-MAX_TAGS : goal.returns-then-n-gt-MAX_TAGS
-returns-then-n-gt-MAX_TAGS c = search record_many
+returns-then-n-gt-MAX_TAGS c = search (rules, record_many)
 
 pub returns : goal.returns
-returns c = search record_judged
+returns c =
+    record_judged _ _ _ c.in_ok-name.name c.field_at.ensures (search rules) _ c.from-n.result (search rules) (search rules) (search rules) c.read_tags.ensures

@@ -8,8 +8,8 @@ returns-then-allowance-gt-MAX_ALLOWANCE c = search over_allowed
 pub returns-then-dst-src : goal.returns-then-dst-src
 returns-then-dst-src c = search unequal
 
-pub returns-then-merges : goal.returns-then-merges
-returns-then-merges c = search done_by
+pub returns-then-not-merges : goal.returns-then-not-merges
+returns-then-not-merges c = search overlapping_by
 
 pub returns : goal.returns
-returns c = search overlapping_by
+returns c = search done_by

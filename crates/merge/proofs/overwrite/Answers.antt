@@ -1,31 +1,10 @@
 -- `overwrite` meets its contract. Assumes nothing.
-use native.Mathlib.Omega.{arith}
-use Rattle.merge.proofs.Merging.{overwrite_starts, overwrite_turn, overwrite_ends}
+use Rattle.std.proofs.Common.{rules, ◌∙◌}
+use Rattle.rows.proofs.Zipping.{zipped}
+use Rattle.merge.proofs.Merging.{laid}
 use Rattle.merge.proofs.overwrite.Goals as goal
 
-pub loop-i-init : goal.loop-i-init
-loop-i-init c = search overwrite_starts
-
-pub bounds-dst-i : goal.bounds-dst-i
-bounds-dst-i c = omega arith
-
-pub bounds-src-i : goal.bounds-src-i
-bounds-src-i c = omega arith
-
-pub source_first-requires : goal.source_first-requires
-source_first-requires c = tt
-
-pub bounds-dst-i-in-loop-i : goal.bounds-dst-i-in-loop-i
-bounds-dst-i-in-loop-i c = omega arith
-
-pub overflow_add-i : goal.overflow_add-i
-overflow_add-i c = omega arith
-
-pub loop-i-smaller : goal.loop-i-smaller
-loop-i-smaller c = omega arith
-
-pub loop-i-preserved : goal.loop-i-preserved
-loop-i-preserved c = search overwrite_turn
-
 pub returns : goal.returns
-returns c = search overwrite_ends
+returns c =
+    zipped _ _ _ _ (search rules) (search rules) (λ k h. search rules)
+    ∙ laid c.args.dst.now c.args.src.now c.requires

@@ -3,9 +3,6 @@ use mathlib.Core.Path.{◌∙◌}
 use Rattle.merge.proofs.Merging.{gap_fits, source_chosen}
 use Rattle.merge.proofs.source_first.Goals as goal
 
-pub gap-requires : goal.gap-requires
-gap-requires c = tt
-
 pub choose-requires : goal.choose-requires
 choose-requires c = search gap_fits
 

@@ -8,35 +8,11 @@ use Rattle.mergeable.proofs.both_merge.Goals as goal
 pub loop-i-init : goal.loop-i-init
 loop-i-init c = search both_start
 
-pub bounds-dst-i : goal.bounds-dst-i
-bounds-dst-i c = omega arith
-
-pub bounds-src-i : goal.bounds-src-i
-bounds-src-i c = omega arith
-
-pub either_gap-n-requires : goal.either_gap-n-requires
-either_gap-n-requires c = tt
-
 pub overflow_add-n : goal.overflow_add-n
 overflow_add-n c = let h : c.loop-i.n + c.either_gap-n.result ≤ c.loop-i.i + 1 = search one_fits in omega arith
 
-pub bounds-other_dst-i : goal.bounds-other_dst-i
-bounds-other_dst-i c = omega arith
-
-pub bounds-other_src-i : goal.bounds-other_src-i
-bounds-other_src-i c = omega arith
-
-pub either_gap-m-requires : goal.either_gap-m-requires
-either_gap-m-requires c = tt
-
 pub overflow_add-m : goal.overflow_add-m
 overflow_add-m c = let h : c.loop-i.m + c.either_gap-m.result ≤ c.loop-i.i + 1 = search other_fits in omega arith
-
-pub overflow_add-i : goal.overflow_add-i
-overflow_add-i c = omega arith
-
-pub loop-i-smaller : goal.loop-i-smaller
-loop-i-smaller c = omega arith
 
 pub loop-i-preserved : goal.loop-i-preserved
 loop-i-preserved c = search both_turn

@@ -2,12 +2,6 @@
 use Rattle.mergeable.proofs.Counting.{gap_told}
 use Rattle.mergeable.proofs.either_gap.Goals as goal
 
-pub gap-requires : goal.gap-requires
-gap-requires c = tt
-
-pub gap-requires-2 : goal.gap-requires-2
-gap-requires-2 c = tt
-
 pub returns : goal.returns
 returns c = let a = c.args in
     rw (c.gap.ensures, c.gap-2.ensures) (gap_told a.x a.y)

@@ -2,15 +2,6 @@
 use Rattle.mergeable.proofs.Counting.{after_gap}
 use Rattle.mergeable.proofs.gap_after.Goals as goal
 
-pub gap-requires : goal.gap-requires
-gap-requires c = tt
-
-pub gap-requires-2 : goal.gap-requires-2
-gap-requires-2 c = tt
-
-pub gap-requires-3 : goal.gap-requires-3
-gap-requires-3 c = tt
-
 pub returns : goal.returns
 returns c = let a = c.args in
     rw (c.gap.ensures, c.gap-2.ensures, c.gap-3.ensures) (after_gap a.x a.y a.z)

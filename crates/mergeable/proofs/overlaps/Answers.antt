@@ -1,35 +1,26 @@
 -- `overlaps` meets its contract. Assumes nothing.
-use Prim.Native.Nat.{◌+◌, ◌≤◌}
-use native.Mathlib.Omega.{arith}
-use Rattle.mergeable.proofs.Counting.{count_starts, count_turn, count_fits, count_below, count_ends}
+use Rattle.std.proofs.Common.{rules, ◌∙◌, length-append, arith}
+use Rattle.std.proofs.lemmas.Slice.Zip.{zip_turn, zip_end}
+use Rattle.mergeable.proofs.Counting.{count_starts, count_turn, count_fits, count_ends}
 use Rattle.mergeable.proofs.overlaps.Goals as goal
 
-pub loop-i-init : goal.loop-i-init
-loop-i-init c = search count_starts
-
-pub bounds-dst-i : goal.bounds-dst-i
-bounds-dst-i c = omega arith
-
-pub bounds-src-i : goal.bounds-src-i
-bounds-src-i c = omega arith
-
-pub either_gap-n-requires : goal.either_gap-n-requires
-either_gap-n-requires c = tt
+pub loop-x-init : goal.loop-x-init
+loop-x-init c = count_starts c.args.dst.now c.args.src.now
 
 pub overflow_add-n : goal.overflow_add-n
-overflow_add-n c = let h : c.loop-i.n + c.either_gap-n.result ≤ c.loop-i.i + 1 = search count_fits in omega arith
+overflow_add-n c = let a = c.args in
+    let z = zip_turn a.dst.now a.src.now c.loop-x.yielded _ _ c.next.new.self _ (search rules) (search rules) c.loop-x.yielded_by _
+    c.in-Some.is c.next.ensures.steps in
+    let h = count_fits a.dst.now a.src.now _ _ c.loop-x.invariant _ (c.either_gap-n.ensures ∙ rw (z.2 0, z.3 0)) c.requires z.0 in omega (arith, h)
 
-pub overflow_add-i : goal.overflow_add-i
-overflow_add-i c = omega arith
-
-pub loop-i-smaller : goal.loop-i-smaller
-loop-i-smaller c = omega arith
-
-pub loop-i-preserved : goal.loop-i-preserved
-loop-i-preserved c = search count_turn
-
-pub overflow_sub-result : goal.overflow_sub-result
-overflow_sub-result c = search count_below
+pub loop-x-preserved : goal.loop-x-preserved
+loop-x-preserved c = let a = c.args in
+    let z = zip_turn a.dst.now a.src.now c.loop-x.yielded _ _ c.next.new.self _ (search rules) (search rules) c.loop-x.yielded_by _
+    c.in-Some.is c.next.ensures.steps in
+    simp length-append (count_turn _ _ _ _ c.loop-x.invariant _ (c.either_gap-n.ensures ∙ rw (z.2 0, z.3 0)) c.requires z.0)
 
 pub returns : goal.returns
-returns c = search count_ends
+returns c = let a = c.args in
+    let z = zip_end a.dst.now a.src.now c.loop-x.yielded _ _ c.next.new.self _ (search rules) (search rules) c.loop-x.yielded_by
+    c.in-None.is c.next.ensures.steps in
+    count_ends _ _ _ _ c.loop-x.invariant (omega (arith, z, c.requires))

@@ -8,32 +8,11 @@ use Rattle.mergeable.proofs.three_merge.Goals as goal
 pub loop-i-init : goal.loop-i-init
 loop-i-init c = search three_start
 
-pub bounds-dst-i : goal.bounds-dst-i
-bounds-dst-i c = omega arith
-
-pub bounds-src-i : goal.bounds-src-i
-bounds-src-i c = omega arith
-
-pub either_gap-n-requires : goal.either_gap-n-requires
-either_gap-n-requires c = tt
-
 pub overflow_add-n : goal.overflow_add-n
 overflow_add-n c = let h : c.loop-i.n + c.either_gap-n.result ≤ c.loop-i.i + 1 = search first_fits in omega arith
 
-pub bounds-later-i : goal.bounds-later-i
-bounds-later-i c = omega arith
-
-pub gap_after-k-requires : goal.gap_after-k-requires
-gap_after-k-requires c = tt
-
 pub overflow_add-k : goal.overflow_add-k
 overflow_add-k c = let h : c.loop-i.k + c.gap_after-k.result ≤ c.loop-i.i + 1 = search then_fits in omega arith
-
-pub overflow_add-i : goal.overflow_add-i
-overflow_add-i c = omega arith
-
-pub loop-i-smaller : goal.loop-i-smaller
-loop-i-smaller c = omega arith
 
 pub loop-i-preserved : goal.loop-i-preserved
 loop-i-preserved c = search three_turn

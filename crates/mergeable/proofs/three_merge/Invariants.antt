@@ -1,11 +1,6 @@
 -- `three_merge` meets its contract. Assumes nothing.
-use Prim.Native.Nat.{◌-◌}
-use lib.ListN.{length}
 use Rattle.mergeable.proofs.Counting.{CountedThree}
 use Rattle.mergeable.proofs.three_merge.Given as goal
 
 abbrev pub invariant-loop-i : goal.invariant-loop-i
 invariant-loop-i l = CountedThree l.dst l.src l.later l.n l.k l.i
-
-abbrev pub decreases-loop-i : goal.decreases-loop-i
-decreases-loop-i l = length l.dst - l.i

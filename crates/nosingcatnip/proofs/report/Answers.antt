@@ -2,8 +2,8 @@
 use Rattle.nosingcatnip.proofs.Reports.{told_by}
 use Rattle.nosingcatnip.proofs.report.Goals as goal
 
-pub returns-in-Answer : goal.returns-in-Answer
-returns-in-Answer c = search told_by
+pub returns-in-Ok : goal.returns-in-Ok
+returns-in-Ok c = search told_by
 
-pub returns-in-Refusal : goal.returns-in-Refusal
-returns-in-Refusal c = search told_by
+pub returns-in-Err : goal.returns-in-Err
+returns-in-Err c = search told_by

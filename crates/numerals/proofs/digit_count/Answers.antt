@@ -1,9 +1,6 @@
 -- `numerals::digit_count` meets its contract. Assumes nothing.
-use Rattle.numerals.proofs.Counts.{count_start, count_turn, count_last, count_full}
+use Rattle.numerals.proofs.Counts.{count_turn, count_last, count_full}
 use Rattle.numerals.proofs.digit_count.Goals as goal
-
-pub loop-k-init : goal.loop-k-init
-loop-k-init c = search count_start
 
 pub returns-then-rest-lt10 : goal.returns-then-rest-lt10
 returns-then-rest-lt10 c = search count_last

@@ -4,6 +4,3 @@ use Rattle.numerals.proofs.put_digits.Given as goal
 
 abbrev pub invariant-loop-i : goal.invariant-loop-i
 invariant-loop-i l = DigitsLeft l.base l.k l.n l.initial.out l.at l.out l.i l.rest
-
-abbrev pub decreases-loop-i : goal.decreases-loop-i
-decreases-loop-i l = l.i

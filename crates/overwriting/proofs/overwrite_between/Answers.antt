@@ -1,5 +1,4 @@
 -- `overwrite_between` meets its contract. Assumes nothing.
-use native.Mathlib.Omega.{arith}
 use Rattle.overwriting.proofs.Overwriting.{between_over_starts, between_over_row, between_over_turn}
 use Rattle.overwriting.proofs.Overwriting.{between_over_ends}
 use Rattle.overwriting.proofs.overwrite_between.Goals as goal
@@ -7,17 +6,8 @@ use Rattle.overwriting.proofs.overwrite_between.Goals as goal
 pub loop-i-init : goal.loop-i-init
 loop-i-init c = search between_over_starts
 
-pub bounds-groups-i : goal.bounds-groups-i
-bounds-groups-i c = omega arith
-
 pub overwrite_if-requires : goal.overwrite_if-requires
 overwrite_if-requires c = search between_over_row
-
-pub overflow_add-i : goal.overflow_add-i
-overflow_add-i c = omega arith
-
-pub loop-i-smaller : goal.loop-i-smaller
-loop-i-smaller c = omega arith
 
 pub loop-i-preserved : goal.loop-i-preserved
 loop-i-preserved c = search between_over_turn

@@ -8,6 +8,3 @@ use Rattle.overwriting.proofs.overwrite_between.Given as goal
 abbrev pub invariant-loop-i : goal.invariant-loop-i
 invariant-loop-i l = Overwriting (length l.initial.dst) l.rows (in_group l.groups l.g) l.to l.i l.dst
     (overwritten_by (length l.initial.dst) l.rows (in_group l.groups l.g) l.from (l.to - l.from) l.initial.dst)
-
-abbrev pub decreases-loop-i : goal.decreases-loop-i
-decreases-loop-i l = l.to - l.i

@@ -6,13 +6,13 @@ use mathlib.Core.Option.{none, some}
 use mathlib.Core.List.{List, ◌++◌}
 use native.Mathlib.Numerals.{add-one}
 use native.Mathlib.Omega.{arith}
-use lib.ListN.{length, get_or, take, drop, length-append, length-drop, drop_of_length-le}
+use lib.ListN.{length, get_or, take, drop, drop_of_length-le}
 use lib.Seq.{drop-cons, length-take-le, take_at}
 use Rattle.model.specs.Row.{overwritten, merged}
 use Rattle.model.proofs.Laws.Row.{overwritten_wide}
 use Rattle.model.specs.Query as Model
 use Rattle.model.proofs.Laws.Booleans.{both_of}
-use Rattle.side_parts.specs.Lent.{RowsHeld, BothRowsHeld, row_sides, Sides}
+use Rattle.side_parts.specs.Lent.{RowsHeld, BothRowsHeld, Sides}
 use Rattle.end_codes.specs.Codes.{left_first, left_last, right_first, right_last}
 use Rattle.key_places.specs.Two.{are_two, both_two, keys_between, two_order, two_between, LastBetween, third_between}
 use Rattle.key_ends.specs.Ends.{CodeOf, left_last_lem, right_last_lem, left_ends, right_ends}
@@ -20,51 +20,20 @@ use Rattle.plan.specs.Keys.{first_of, last_of, KeyEnds}
 use Rattle.plan.specs.Merging.{RowMerge, row, failed_at, merge_group, merge_last, clash}
 use Rattle.side_parts.specs.Sides.{row_at}
 use Rattle.plan.specs.Conclude.{or_else}
-use Rattle.plan.specs.Pairs.{is_pair, pair_clash, pairs_clash}
-use Rattle.merging.specs.declared.Merges.{Merges}
-use Rattle.merging.specs.declared.Merges.TheVariants.{Done, FailedAt}
+use Rattle.plan.specs.Pairs.{pair_clash, pairs_clash}
+use Rattle.std.specs.Prelude.{Result, Ok, Err, ⊤, MatchResult, IsErrAnd}
+use Rattle.merging.specs.declared.Unmerged.{Unmerged}
+use Rattle.answers.specs.declared.Twice.{Twice}
+use Rattle.answers.specs.declared.Twice.TheVariants as T
 use Rattle.mergeable.specs.Mergeable.{merged_if, mergeable, mergeable_merges}
-use Rattle.answers.specs.Plans.{duplicate}
+use Rattle.answers.specs.Plans.{duplicate, duplicate_of}
 use Rattle.side_parts.specs.SideLaws.{row_in, row_width}
-use Rattle.merging.specs.Groups.{MergedGroup}
 use Rattle.plan.specs.Laws.Ends.{first_last, last_is, last_within, ends_within, several_stand}
 use Rattle.overwriting.specs.Several.{then_row, merge_one, single_row, none_among, up_to_last, several, several_merged}
 use Rattle.pair_series.specs.pair_rows.Rows.{PairCode}
 use Rattle.pair_series.proofs.Two.{TwoOn, two_left, two_right}
-use Rattle.pair_plan.specs.declared.pair_checks.Checked.{Checked}
-use Rattle.pair_plan.specs.declared.pair_checks.Checked.TheVariants as C
 use Rattle.pair_plan.specs.pair_checks.Checks.{failure_of, failed_in, TriedGroup}
 use Rattle.pair_plan.specs.pair_checks.Checks.{rows_merge, three_merge, twos_merge, clash_in, clash_at}
-
--- `row_merges`
-
-pub rows_alike : (p : ℕ) (rows : List ℕ) (i j : ℕ) → i * p + p ≤ length rows → j * p + p ≤ length rows
-    → (s d : List ℕ) → d ≡ row_at p rows i → s ≡ row_at p rows j → length s ≡ length d
-rows_alike p rows i j hi hj s d hd hs = row_width p rows s j hj hs ∙ sym (row_width p rows d i hi hd)
-
-pub rows_told : (allowance p : ℕ) (rows : List ℕ) (i j : ℕ) (s d : List ℕ) → d ≡ row_at p rows i → s ≡ row_at p rows j
-    → (r : Bool) → merged_if r d s ≡ merged allowance d s
-    → merged_if r (row_at p rows i) (row_at p rows j) ≡ merged allowance (row_at p rows i) (row_at p rows j)
-rows_told allowance p rows i j s d hd hs r h = rw (hd, hs) at h
-
--- `ensure_between`: what the earlier merges are to come to is `want`, and they leave the row `later`
-
-module _ (want : RowMerge) (p : ℕ) (later : List ℕ) (r : Merges) (g : MergedGroup want p later r) (prev : ℕ) where
-  pub prev_there : (n m : ℕ) → prev < n → n * p ≤ m → prev * length later + length later ≤ m
-  prev_there n m h k = rw g.long (omega (arith, row_in prev n p h, k))
-
-  module _ (allowance : ℕ) (rows : List ℕ) where
-    pub between_failed : (i : ℕ) → r ≡ FailedAt i
-        → TriedGroup (then_row want (merge_one allowance p rows prev)) p later (FailedAt i)
-    between_failed i e = record { answer = rw (← g.answer, e); long = g.long }
-
-    module _ (e : r ≡ Done) (s : List ℕ) (hs : s ≡ row_at (length later) rows prev) (m : Bool)
-        (hm : merged_if m later s ≡ merged allowance later s) where
-      pub prev_fine : m ≡ true → TriedGroup (then_row want (merge_one allowance p rows prev)) p later Done
-      prev_fine t = record { answer = rw (← g.answer, e, ← g.long, ← hs, ← hm, t); long = g.long }
-
-      pub prev_fails : m ≡ false → TriedGroup (then_row want (merge_one allowance p rows prev)) p later (FailedAt prev)
-      prev_fails f = record { answer = rw (← g.answer, e, ← g.long, ← hs, ← hm, f); long = g.long }
 
 -- `three_merge`
 
@@ -74,7 +43,7 @@ row_there p rows keys held i h = omega (arith, row_in i (length keys) p h, held.
 
 module _ (allowance p : ℕ) (rows keys : List ℕ) (k first prev last : ℕ) (r : Bool)
     (hr : r ≡ are_two keys k first prev) where
-  pub not_three : r ≡ false → false ≡ three_merge allowance p rows keys k first prev last
+  pub not_three : r ≡ false → r ≡ three_merge allowance p rows keys k first prev last
   unfolding three_merge
   not_three f = rw (← hr, f)
 
@@ -111,9 +80,6 @@ module _ (allowance p : ℕ) (rows keys : List ℕ) (k first last : ℕ) (held :
   -- prev is the last between them: the first is merged, those up to prev, then prev
 
   module _ (prev : ℕ) (b : LastBetween keys k first last prev) where
-    pub prev_behind : first + 1 ≤ prev
-    prev_behind = omega (arith, b.behind)
-
     pub prev_in : prev < length keys
     prev_in = omega (arith, b.before, last_in)
 
@@ -175,32 +141,13 @@ module _ (allowance p : ℕ) (rows keys : List ℕ) (k first last : ℕ) (held :
       again : take p (d ++ drop p work) ≡ d
       again = take_at d (drop p work) p put_long
 
-      pub put_part : p ≡ length (take p (d ++ drop p work))
-      put_part = rw again (sym put_long)
-
-      pub put_room : length keys * length (take p (d ++ drop p work)) ≤ length rows
-      put_room = rw (← put_part) (omega (arith, held.whole))
-
-      put_again : length (d ++ drop p work) ≡ length work
-      put_again = omega (arith, length-append d (drop p work), length-drop p work, put_long)
-
-      module _ (prev : ℕ) (later : List ℕ) (r : Merges)
+      module _ (prev : ℕ) (later : List ℕ) (r : Result ⊤ Unmerged)
           (g : TriedGroup
           (then_row
           (merge_group allowance (length (take p (d ++ drop p work))) rows k (first + 1)
           (take (prev - (first + 1)) (drop (first + 1) keys)) (take p (d ++ drop p work)))
           (merge_one allowance (length (take p (d ++ drop p work))) rows prev))
           (length (take p (d ++ drop p work))) later r) where
-        pub between_long : length (later ++ drop p (d ++ drop p work)) ≡ length work
-        between_long = omega (
-          arith,
-          length-append later (drop p (d ++ drop p work)),
-          length-drop p (d ++ drop p work),
-          put_again,
-          g.long,
-          put_part,
-        )
-
         pub between_told : (m : Bool)
             → merged_if m (row_at p rows last) (row_at p rows first)
             ≡ merged allowance (row_at p rows last) (row_at p rows first)
@@ -219,9 +166,6 @@ single_fine allowance p rows keys k first last e le =
 
 -- `check_pair`
 
-pub room_kept : (p m n : ℕ) → p ≤ m → n ≡ m → p ≤ n
-room_kept p m n h e = omega (arith, h, e)
-
 clash_of : (side : Model.Side) (kept : ℕ) (u : RowMerge) → none ≡ failure_of u → none ≡ clash side kept u
 clash_of side kept (row d) h = refl
 clash_of side kept (failed_at i d) h = absurd (let z : ◌≡◌ {A = ℕ} 0 1 = cc in omega arith)
@@ -231,34 +175,51 @@ clash_at_lem : (side : Model.Side) (kept i : ℕ) (u : RowMerge) → some i ≡ 
 clash_at_lem side kept i (row d) h = absurd (let z : ◌≡◌ {A = ℕ} 0 1 = cc in omega arith)
 clash_at_lem side kept i (failed_at j d) h = let z : i ≡ j = cc in rw z
 
-module _ (allowance p : ℕ) (left lkeys right rkeys : List ℕ) (k : ℕ) (a : Merges)
-    (ha : failed_in a ≡ failure_of (merge_last allowance p left lkeys k)) where
-  pub check_left : (c : ℕ) → CodeOf lkeys rkeys k c → (i kept : ℕ) → a ≡ FailedAt i → kept ≡ left_last c
-      → clash_in (C.Left kept i) ≡ pair_clash allowance (row_sides p lkeys left rkeys right) k
-  check_left c hc i kept e hk =
-      let z : some i ≡ failure_of (merge_last allowance p left lkeys k) = rw e at ha in
-      rw (← left_last_lem lkeys rkeys k c hc, ← hk, ← clash_at_lem Model.left kept i (merge_last allowance p left lkeys k) z)
+-- a side's merges a, whose failure is told as a clash of that side
+side_clash : (side : Model.Side) (kept : ℕ) (told : ℕ → Twice)
+    → ((i : ℕ) → duplicate_of (told i) ≡ duplicate side kept i) → (u : RowMerge) (a : Result ⊤ Unmerged)
+    → failed_in a ≡ failure_of u → (x : Result ⊤ Twice) (P : Unmerged → Twice → Type 0)
+    → MatchResult a (λ v. x ≡ Ok v) (λ e. IsErrAnd x (P e)) → ((e : Unmerged) (t : Twice) → P e t → t ≡ told e.0)
+    → clash_in x ≡ clash side kept u
+side_clash side kept told same u (Ok v) h x P m tells = rw m (clash_of side kept u h)
+side_clash side kept told same u (Err e) h (Ok v) P m tells = elim m [ ]
+side_clash side kept told same u (Err e) h (Err t) P m tells = rw (tells e t m, same e.0) (clash_at_lem side kept e.0 u h)
 
-  module _ (e : a ≡ Done) (b : Merges) (hb : failed_in b ≡ failure_of (merge_last allowance p right rkeys k)) where
-    left_fine : (kept : ℕ) → none ≡ clash Model.left kept (merge_last allowance p left lkeys k)
-    left_fine kept = clash_of Model.left kept (merge_last allowance p left lkeys k) (rw e at ha)
+module _ (allowance p : ℕ) (rows lkeys rkeys : List ℕ) (k c : ℕ) (hc : CodeOf lkeys rkeys k c) where
+  pub left_clash : (kept : ℕ) → kept ≡ left_last c → (a : Result ⊤ Unmerged)
+      → failed_in a ≡ failure_of (merge_last allowance p rows lkeys k) → (x : Result ⊤ Twice)
+      (P : Unmerged → Twice → Type 0) → MatchResult a (λ v. x ≡ Ok v) (λ e. IsErrAnd x (P e))
+      → ((e : Unmerged) (t : Twice) → P e t → t ≡ T.Left (record { kept = kept; failed = e.0 }))
+      → clash_in x ≡ clash Model.left (last_of lkeys k) (merge_last allowance p rows lkeys k)
+  left_clash kept hk a ha x P m tells =
+      rw (← left_last_lem lkeys rkeys k c hc, ← hk)
+      (side_clash Model.left kept (λ i. T.Left (record { kept = kept; failed = i })) (λ i. refl)
+      (merge_last allowance p rows lkeys k) a ha x P m tells)
 
-    pub check_right : (c : ℕ) → CodeOf lkeys rkeys k c → (i kept : ℕ) → b ≡ FailedAt i → kept ≡ right_last c
-        → clash_in (C.Right kept i) ≡ pair_clash allowance (row_sides p lkeys left rkeys right) k
-    check_right c hc i kept f hk =
-        let z : some i ≡ failure_of (merge_last allowance p right rkeys k) = rw f at hb in
-        rw (← left_fine (last_of lkeys k), ← right_last_lem lkeys rkeys k c hc, ← hk)
-        (clash_at_lem Model.right kept i (merge_last allowance p right rkeys k) z)
+  pub right_clash : (kept : ℕ) → kept ≡ right_last c → (a : Result ⊤ Unmerged)
+      → failed_in a ≡ failure_of (merge_last allowance p rows rkeys k) → (x : Result ⊤ Twice)
+      (P : Unmerged → Twice → Type 0) → MatchResult a (λ v. x ≡ Ok v) (λ e. IsErrAnd x (P e))
+      → ((e : Unmerged) (t : Twice) → P e t → t ≡ T.Right (record { kept = kept; failed = e.0 }))
+      → clash_in x ≡ clash Model.right (last_of rkeys k) (merge_last allowance p rows rkeys k)
+  right_clash kept hk a ha x P m tells =
+      rw (← right_last_lem lkeys rkeys k c hc, ← hk)
+      (side_clash Model.right kept (λ i. T.Right (record { kept = kept; failed = i })) (λ i. refl)
+      (merge_last allowance p rows rkeys k) a ha x P m tells)
 
-    pub check_fine : b ≡ Done → clash_in C.Fine ≡ pair_clash allowance (row_sides p lkeys left rkeys right) k
-    check_fine f =
-        rw (← left_fine (last_of lkeys k))
-        (clash_of Model.right (last_of rkeys k) (merge_last allowance p right rkeys k) (rw f at hb))
+module _ (allowance : ℕ) (s : Sides) (k : ℕ) (x : Result ⊤ Twice)
+    (left : clash_in x ≡ clash Model.left (last_of s.left.keys k) (merge_last allowance s.shape.points s.left.rows s.left.keys k)) where
+  pub check_left : (t : Twice) → x ≡ Err t → clash_in (Err t) ≡ pair_clash allowance s k
+  check_left t e = rw (← left, e)
+
+  pub check_right : (v : ⊤) → x ≡ Ok v → (y : Result ⊤ Twice)
+      → clash_in y ≡ clash Model.right (last_of s.right.keys k) (merge_last allowance s.shape.points s.right.rows s.right.keys k)
+      → clash_in y ≡ pair_clash allowance s k
+  check_right v e y right = rw (← left, e) right
 
 -- `two_merge`
 
 module _ (allowance : ℕ) (s : Sides) (c : ℕ) (r : Bool) (hr : r ≡ both_two s.left.keys s.right.keys c) where
-  pub no_twos : r ≡ false → false ≡ twos_merge allowance s c
+  pub no_twos : r ≡ false → r ≡ twos_merge allowance s c
   unfolding twos_merge
   no_twos f = rw (← hr, f)
 
@@ -301,20 +262,9 @@ module _ (s : Sides) (k c : ℕ) (hc : CodeOf s.left.keys s.right.keys k c)
   twos_fine held allowance r told t =
       let tests = both_of _ _ (sym told ∙ t) in
       let merge = both_of _ _ tests.1 in
-      check_fine allowance s.shape.points s.left.rows s.left.keys s.right.rows s.right.keys k Done
-      (side_fine allowance _ _ _ k _ _ (left_ends _ _ k c hc _ _ refl refl) (two_left s held c code_in tests.0)
-      merge.0) refl Done
-      (side_fine allowance _ _ _ k _ _ (right_ends _ _ k c hc _ _ refl refl) (two_right s held c code_in tests.0)
-      merge.1) refl
-
--- `check_at`
-
-module _ (allowance : ℕ) (s : Sides) (i k : ℕ) (r : Bool) (hr : r ≡ is_pair s.left.keys s.right.keys k i) where
-  pub at_pair : r ≡ true → (x : Checked) → clash_in x ≡ pair_clash allowance s k → clash_in x ≡ clash_at allowance s i k
-  at_pair h x hx = rw (← hr, h) hx
-
-  pub at_none : r ≡ false → none ≡ clash_at allowance s i k
-  at_none h = rw (← hr, h)
+      let left = side_fine allowance _ _ _ k _ _ (left_ends _ _ k c hc _ _ refl refl) (two_left s held c code_in tests.0) merge.0 in
+      let right = side_fine allowance _ _ _ k _ _ (right_ends _ _ k c hc _ _ refl refl) (two_right s held c code_in tests.0) merge.1 in
+      rw (← clash_of Model.left (last_of s.left.keys k) _ left) (clash_of Model.right (last_of s.right.keys k) _ right)
 
 -- the loop of `check_pairs`: the places before i have no clash
 
@@ -324,14 +274,8 @@ pub record Checking (allowance : ℕ) (s : Sides) (before : List ℕ) (i : ℕ) 
   pub long : length work ≡ length before
 
 module _ (allowance : ℕ) (s : Sides) (before : List ℕ) where
-  pub check_starts : Checking allowance s before 0 before
-  check_starts = record { within = omega arith; rest = refl; long = refl }
-
   module _ (i : ℕ) (work : List ℕ) (inv : Checking allowance s before i work) where
-    pub check_room : (p : ℕ) → p ≤ length before → p ≤ length work
-    check_room p h = rw inv.long h
-
-    module _ (h : i < length s.left.keys) (x : Checked)
+    module _ (h : i < length s.left.keys) (x : Result ⊤ Twice)
         (hx : clash_in x ≡ clash_at allowance s i (get_or s.left.keys i 0)) where
       next : or_else (clash_in x) (pairs_clash allowance s (suc i) (drop (suc i) s.left.keys))
           ≡ pairs_clash allowance s 0 s.left.keys
@@ -342,17 +286,12 @@ module _ (allowance : ℕ) (s : Sides) (before : List ℕ) where
               (pairs_clash allowance s (suc i) (drop (suc i) s.left.keys))
           step = unfold pairs_clash in rw (drop-cons s.left.keys i 0 h)
 
-      pub check_turn : x ≡ C.Fine → (later : List ℕ) → length later ≡ length work
+      pub check_turn : x ≡ Ok tt → (later : List ℕ) → length later ≡ length work
           → Checking allowance s before (i + 1) later
       check_turn e later l = record { within = omega arith; rest = rw (add-one i) (rw e at next); long = l ∙ inv.long }
 
-      pub check_failed_left : (kept failed : ℕ) → x ≡ C.Left kept failed
-          → clash_in (C.Left kept failed) ≡ pairs_clash allowance s 0 s.left.keys
-      check_failed_left kept failed e = rw e at next
-
-      pub check_failed_right : (kept failed : ℕ) → x ≡ C.Right kept failed
-          → clash_in (C.Right kept failed) ≡ pairs_clash allowance s 0 s.left.keys
-      check_failed_right kept failed e = rw e at next
+      pub check_failed : (t : Twice) → x ≡ Err t → clash_in (Err t) ≡ pairs_clash allowance s 0 s.left.keys
+      check_failed t e = rw e at next
 
     pub check_ends : length s.left.keys ≤ i → none ≡ pairs_clash allowance s 0 s.left.keys
     check_ends h = sym none_left ∙ inv.rest

@@ -9,7 +9,7 @@ use lib.ListN.{length, get_or, drop, drop_of_length-le}
 use lib.Seq.{drop-cons}
 use Rattle.model.specs.Lists.{cases}
 use Rattle.index_lists.specs.Places.{NotedIf, NotedAll}
-use Rattle.index_lists.proofs.Noting.{Noting, noting_starts, noting_turn, noting_length, noting_ends}
+use Rattle.index_lists.proofs.Noting.{Noting, noting_turn, noting_ends}
 use Rattle.key_ends.specs.Ends.{PairEnds}
 use Rattle.plan.specs.Pairs.{is_pair}
 use Rattle.pair_plan.specs.pairs.Pairing.{codes_from}
@@ -34,14 +34,8 @@ pub record Listing (ks ms before : List ℕ) (i : ℕ) (list : List ℕ) (n : �
   pub noting : Noting (codes_from ks ms 0 ks) 0 before (codes_from ks ms i (drop i ks)) n list
 
 module _ (ks ms before : List ℕ) where
-  pub list_starts : Listing ks ms before 0 before 0
-  list_starts = record { few = omega arith; noting = noting_starts (codes_from ks ms 0 ks) 0 before }
-
   module _ (i : ℕ) (list : List ℕ) (n : ℕ) (inv : Listing ks ms before i list n) where
     module _ (ends : List ℕ) (he : PairEnds ks ms ends) (h : i < length ks) where
-      pub list_small : n ≤ 1024
-      list_small = omega (arith, inv.few, he.left_few)
-
       abbrev behind : List ℕ
       behind = codes_from ks ms (i + 1) (drop (i + 1) ks)
 
@@ -60,9 +54,6 @@ module _ (ks ms before : List ℕ) where
         noting = noting_turn (codes_from ks ms 0 ks) 0 before b (get_or ends i 0) n list later behind r
             (rw (next, ← hb) at inv.noting) p;
       }
-
-    pub list_long : length list ≡ length before
-    list_long = noting_length (codes_from ks ms 0 ks) 0 before (codes_from ks ms i (drop i ks)) n list inv.noting
 
     pub list_ends : length ks ≤ i → NotedAll (codes_from ks ms 0 ks) 0 before list n
     list_ends h =

@@ -1,8 +1,7 @@
 -- What the merges of one-to-one come to, as the code tells it. Assumes nothing.
-use Rattle.std.specs.Prelude.{ℕ, ◌≡◌, Bool, cond, ◌&&◌, List, length}
+use Rattle.std.specs.Prelude.{ℕ, ◌≡◌, Bool, cond, ◌&&◌, List, length, Result, Ok, Err, ⊤}
 use Rattle.std.proofs.Math.Option.{Option, none, some}
 use Rattle.model.specs.Row.{overwritten}
-use Rattle.model.specs.Query as Model
 use Rattle.semantics.specs.Events.{Duplicate}
 use Rattle.plan.specs.Merging.{RowMerge, row, failed_at}
 use Rattle.plan.specs.Pairs.{is_pair, pair_clash}
@@ -11,11 +10,9 @@ use Rattle.side_parts.specs.Lent.{Sides}
 use Rattle.end_codes.specs.Codes.{left_first, left_last, right_first, right_last}
 use Rattle.key_places.specs.Two.{are_two, both_two}
 use Rattle.mergeable.specs.Mergeable.{mergeable}
-use Rattle.merging.specs.declared.Merges.{Merges}
-use Rattle.merging.specs.declared.Merges.TheVariants.{Done, FailedAt}
-use Rattle.answers.specs.Plans.{duplicate}
-use Rattle.pair_plan.specs.declared.pair_checks.Checked.{Checked}
-use Rattle.pair_plan.specs.declared.pair_checks.Checked.TheVariants as C
+use Rattle.merging.specs.declared.Unmerged.{Unmerged}
+use Rattle.answers.specs.declared.Twice.{Twice}
+use Rattle.answers.specs.Plans.{duplicate_of}
 
 -- the place of the series that failed to merge: where merges are to come to it, and as the code tells it
 
@@ -23,12 +20,12 @@ abbrev pub failure_of : RowMerge → Option ℕ
 failure_of (row d) = none
 failure_of (failed_at i d) = some i
 
-abbrev pub failed_in : Merges → Option ℕ
-failed_in Done = none
-failed_in (FailedAt i) = some i
+abbrev pub failed_in : Result ⊤ Unmerged → Option ℕ
+failed_in (Ok _) = none
+failed_in (Err e) = some e.0
 
 -- merges that are to come to `want` answer r, and leave a row d, p readings wide, of which no more is told
-pub record TriedGroup (want : RowMerge) (p : ℕ) (d : List ℕ) (r : Merges) : Type 0 where
+pub record TriedGroup (want : RowMerge) (p : ℕ) (d : List ℕ) (r : Result ⊤ Unmerged) : Type 0 where
   pub answer : failed_in r ≡ failure_of want
   pub long : length d ≡ p
 
@@ -52,10 +49,9 @@ twos_merge allowance s c =
     && rows_merge allowance s.shape.points s.right.rows (right_first c) (right_last c))
 
 -- 01: fields are the input places of the series kept and the one that failed to merge
-abbrev pub clash_in : Checked → Option Duplicate
-clash_in C.Fine = none
-clash_in (C.Left kept failed) = some (duplicate Model.left kept failed)
-clash_in (C.Right kept failed) = some (duplicate Model.right kept failed)
+abbrev pub clash_in : Result ⊤ Twice → Option Duplicate
+clash_in (Ok _) = none
+clash_in (Err t) = some (duplicate_of t)
 
 -- the clash at the left place i, whose key is k
 abbrev pub clash_at : ℕ → Sides → ℕ → ℕ → Option Duplicate

@@ -1,5 +1,5 @@
 -- Rows written part by part: parts of two rows give a part of what the rows give. Assumes nothing.
-use Prim.Native.Nat.{ℕ, zero, suc, ◌+◌, ◌-◌, ◌≤◌, ◌<◌}
+use Prim.Native.Nat.{ℕ, zero, suc, ◌+◌, ◌-◌, ◌≤◌, ◌<◌, min}
 use mathlib.Core.Path.{◌≡◌, refl, sym, ap, ◌∙◌}
 use mathlib.Core.List.{List, [], ◌∷◌, ◌++◌, append_assoc, append-nil}
 use native.Mathlib.Omega.{arith}
@@ -118,13 +118,10 @@ pub record Parted (f : ℕ → ℕ → ℕ) (ld ls rd rs lv₀ rv₀ out₀ lv r
 pub part_told : (f : ℕ → ℕ → ℕ) (x y z v w : List ℕ) → z ≡ zip_with f x y → x ≡ v → y ≡ w → z ≡ zip_with f v w
 part_told f x y z v w hz hx hy = hz ∙ rw (hx, hy)
 
--- `part_end`
+-- the end of a part
 
-pub last_part : (from p : ℕ) → from < p → PartEnd from p p
-last_part from p h = record { after = h; within = omega arith }
-
-pub next_part : (from p : ℕ) → 128 < p - from → PartEnd from p (from + 128)
-next_part from p h = record { after = omega arith; within = omega (arith, h) }
+pub part_end : (from p to : ℕ) → from < p → to ≡ min p (from + 128) → PartEnd from p to
+part_end from p to h e = record { after = omega (arith, e); within = omega (arith, e) }
 
 module _ (from p to : ℕ) (e : PartEnd from p to) where
   pub part_order : from ≤ to

@@ -2,17 +2,14 @@
 use Rattle.query.proofs.Takes.{nothing_asked, unknown, not_carried_lem, carried}
 use Rattle.query.proofs.take_query.Goals as goal
 
-pub returns-then-s-eq0 : goal.returns-then-s-eq0
-returns-then-s-eq0 c = search nothing_asked
+pub returns-in_default : goal.returns-in_default
+returns-in_default c = search nothing_asked
 
-pub returns-then-is_carried : goal.returns-then-is_carried
-returns-then-is_carried c = carried c.args.s.now c.if-s-eq0.false c.from_byte.result c.from_byte.ensures
-    c.in-Known.operator (cc) c.is_carried.result c.is_carried.ensures c.if-is_carried.true
-    c.take_modifier.result c.take_modifier.ensures
+pub returns-in_err-operator : goal.returns-in_err-operator
+returns-in_err-operator c = search (unknown, c.in_err-operator.ensures)
 
-pub returns-else-is_carried : goal.returns-else-is_carried
-returns-else-is_carried c = not_carried_lem c.args.s.now c.if-s-eq0.false c.from_byte.result c.from_byte.ensures
-    c.in-Known.operator (cc) c.is_carried.result c.is_carried.ensures c.if-is_carried.false
+pub returns-then-not-is_carried : goal.returns-then-not-is_carried
+returns-then-not-is_carried c = search (not_carried_lem, c.in_ok-operator.ensures)
 
-pub returns-in-Unknown : goal.returns-in-Unknown
-returns-in-Unknown c = search unknown
+pub returns : goal.returns
+returns c = search (carried, c.in_ok-operator.ensures)

@@ -3,12 +3,6 @@ use native.Mathlib.Omega.{arith}
 use Rattle.reading.proofs.Nan.{gap_at_most}
 use Rattle.reading.proofs.gaps.Goals as goal
 
-pub gap-requires : goal.gap-requires
-gap-requires c = tt
-
-pub gap-requires-2 : goal.gap-requires-2
-gap-requires-2 c = tt
-
 pub overflow_add-result : goal.overflow_add-result
 overflow_add-result c = let a = c.args in omega (arith, gap_at_most a.left, gap_at_most a.right)
 

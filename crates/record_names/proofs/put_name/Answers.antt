@@ -14,11 +14,11 @@ put_byte-requires c = search name_room_none
 pub put_byte-requires-else-keep : goal.put_byte-requires-else-keep
 put_byte-requires-else-keep c = search name_room_cleared
 
-pub returns-in-At : goal.returns-in-At
-returns-in-At c = search name_put_kept
+pub returns-in-Some : goal.returns-in-Some
+returns-in-Some c = search name_put_kept
 
-pub returns-in-Short : goal.returns-in-Short
-returns-in-Short c = search name_put_none
+pub returns-in-None : goal.returns-in-None
+returns-in-None c = search name_put_none
 
 pub returns-else-keep : goal.returns-else-keep
 returns-else-keep c = search name_put_cleared

@@ -2,7 +2,7 @@
 use Prim.Native.Nat.{ℕ, suc, ◌+◌, ◌≤◌, ◌<◌}
 use mathlib.Core.Path.{◌≡◌, refl, sym, ap, ◌∙◌}
 use mathlib.Core.Bool.{Bool, true, false, cond}
-use mathlib.Core.List.{List, [], ◌∷◌, ◌++◌, map, append-nil}
+use mathlib.Core.List.{List, [], ◌∷◌, ◌++◌, map}
 use native.Mathlib.Numerals.{add-one}
 use native.Mathlib.Omega.{arith}
 use lib.Dec.{eqb}
@@ -14,14 +14,14 @@ use Rattle.model.specs.Lists.{cases}
 use Rattle.model.proofs.Laws.Booleans.{never}
 use Rattle.model.proofs.Laws.Lists.{sets_append, map_append}
 use Rattle.side_parts.specs.Sides.{row_at}
-use Rattle.side_parts.specs.Lent.{Sides, RowsHeld}
+use Rattle.side_parts.specs.Lent.{Sides}
 use Rattle.plan.specs.Keys.{first_of}
 use Rattle.plan.specs.Sets.{SetWork, met_places, answers_at, lefts_from, rights_from}
 use Rattle.side_parts.specs.SideLaws.{row_width}
 use Rattle.end_codes.specs.Codes.{codes, both_code, side_first}
 use Rattle.key_ends.specs.Ends.{SideEnds, side_first_lem, ends_at}
 use Rattle.index_lists.specs.Places.{NotedIf, NotedAll}
-use Rattle.index_lists.proofs.Noting.{noted_most, Noting, noting_starts, noting_turn, noting_length, noting_ends}
+use Rattle.index_lists.proofs.Noting.{noted_most, Noting, noting_turn, noting_ends}
 use Rattle.set_series.proofs.Rows.{row_in}
 use Rattle.set_plan.specs.Codes.{fallen, met_code, set_code, set_codes}
 use Rattle.set_plan.specs.left_series.Answering.{met_by, Answered}
@@ -54,23 +54,7 @@ module _ (w : SetWork) (s : Sides) (places₀ before : List ℕ) where
     pub over : met_over w.falls s.right.keys (drop i s.left.keys) places
         ≡ met_over w.falls s.right.keys s.left.keys places₀
 
-  pub left_starts : LeftListing places₀ 0 0 before
-  left_starts = record {
-    reached = omega arith;
-    few = omega arith;
-    noting = noting_starts (left_codes w s 0 s.left.keys) 0 before;
-    over = refl;
-  }
-
   module _ (places : List ℕ) (n i : ℕ) (list : List ℕ) (inv : LeftListing places n i list) where
-    pub left_length : length list ≡ length before
-    left_length = noting_length (left_codes w s 0 s.left.keys) 0 before (lefts_left i) n list inv.noting
-
-    pub places_length : length places ≡ length places₀
-    places_length =
-        sym (over_length w.falls s.right.keys (drop i s.left.keys) places) ∙ ap length inv.over
-        ∙ over_length w.falls s.right.keys s.left.keys places₀
-
     pub left_ends : length s.left.keys ≤ i → LeftsListed w s places₀ places before list n
     unfolding lefts_from met_over
     left_ends h = record {
@@ -102,9 +86,6 @@ module _ (w : SetWork) (s : Sides) (places₀ before : List ℕ) where
         wide =
             row_width s.shape.points s.left.rows x i
             (row_in s.shape.points s.left.keys s.left.rows i held.rows.left h) row
-
-        pub left_held : RowsHeld (length x) s.right.rows s.right.keys
-        left_held = rw wide held.rows.right
 
         module _ (places' : List ℕ) (here : Bool)
             (asked : Answered w.rule x s.right.keys s.right.rows e places places' here) where
@@ -146,14 +127,7 @@ module _ (lkeys keys : List ℕ) (n₀ : ℕ) (before : List ℕ) where
     pub few : n ≤ n₀ + j
     pub noting : Noting (right_codes lkeys 0 keys) n₀ before (rights_left j) n list
 
-  pub right_starts : RightListing n₀ 0 before
-  right_starts =
-      record { reached = omega arith; few = omega arith; noting = noting_starts (right_codes lkeys 0 keys) n₀ before }
-
   module _ (n j : ℕ) (list : List ℕ) (inv : RightListing n j list) where
-    pub right_length : length list ≡ length before
-    right_length = noting_length (right_codes lkeys 0 keys) n₀ before (rights_left j) n list inv.noting
-
     pub right_ends : length keys ≤ j → NotedAll (right_codes lkeys 0 keys) n₀ before list n
     unfolding rights_from
     right_ends h =
@@ -239,10 +213,3 @@ module _ (w : SetWork) (s : Sides) where
             (noted_both (left_codes w s 0 s.left.keys) (right_codes s.left.keys 0 s.right.keys) before mid after
             n r listed.codes b)
         go false h = never h
-
-    pub rows_left : w.adds ≡ false → NotedAll (set_codes w s) 0 before mid n
-    rows_left e = go w.adds e
-      where
-        go : (t : Bool) → t ≡ false → NotedAll (map (set_code w s) (with_rights t)) 0 before mid n
-        go true h = never (sym h)
-        go false h = rw append-nil listed.codes

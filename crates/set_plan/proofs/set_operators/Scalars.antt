@@ -1,5 +1,5 @@
 -- The two bytes of a record without name and tags. Assumes nothing.
-use Prim.Native.Nat.{ℕ, ◌+◌, ◌<◌}
+use Prim.Native.Nat.{ℕ, ◌<◌}
 use mathlib.Core.Path.{◌≡◌, refl, ap, ◌∙◌}
 use mathlib.Core.Bool.{false}
 use mathlib.Core.List.{List, [], ◌∷◌, ◌++◌}
@@ -34,12 +34,15 @@ bare_size (x ∷ name) tags =
     not_two (length (encode (record { name = x ∷ name; tags = tags })))
     (omega (arith, length-labels (record { name = x ∷ name; tags = tags })))
 
-pub scalar_not : (array at : List ℕ) → (length at ≡ 2 → ⊥) → false ≡ is_scalar (labels_in array at)
+one_record : (array at : List ℕ) → (length at ≡ 2 → ⊥) → false ≡ is_scalar (labels_in array at)
 unfolding labels_from
-scalar_not array [] h = refl
-scalar_not array (a ∷ []) h = refl
-scalar_not array (a ∷ e ∷ []) h = absurd (h refl)
-scalar_not array (a ∷ e ∷ f ∷ at) h = refl
+one_record array [] h = refl
+one_record array (a ∷ []) h = refl
+one_record array (a ∷ e ∷ []) h = absurd (h refl)
+one_record array (a ∷ e ∷ f ∷ at) h = refl
+
+pub scalar_not : (array at : List ℕ) → (length at ≡ 2 → ⊥) → eqb (length at) 2 ≡ is_scalar (labels_in array at)
+scalar_not array at h = ne_eqb (length at) 2 h ∙ one_record array at h
 
 pub scalar_is : (array at rec : List ℕ) → Formed array at → length at ≡ 2 → rec ≡ record_at array at 0
     → eqb (length rec) 2 ≡ is_scalar (labels_in array at)

@@ -1,27 +1,26 @@
 -- Whether a rule leaves a reading in a left row: by one right row, and point by point by several. Assumes nothing.
-use Prim.Native.Nat.{ℕ, zero, suc, ◌+◌, ◌-◌, ◌*◌, ◌≤◌, ◌<◌}
+use Prim.Native.Nat.{ℕ, zero, suc, ◌+◌, ◌-◌, ◌*◌, ◌≤◌, ◌<◌, min}
 use mathlib.Core.Path.{◌≡◌, refl, sym, ap, ◌∙◌}
 use mathlib.Core.Bool.{Bool, true, false, not, cond}
 use mathlib.Core.List.{List, [], ◌∷◌, ◌++◌}
 use native.Mathlib.Numerals.{add-one}
-use native.Mathlib.Nat.{add-zero}
 use native.Mathlib.Omega.{arith}
-use lib.Dec.{ltb}
 use lib.ListN.{length, get_or, take, drop, length-take, length-drop, drop_of_length-le}
-use lib.Seq.{drop-cons, drop-drop}
-use borrow.Author.Tests.{lt-ltb, ltb-false}
+use lib.Seq.{drop-cons, drop-drop, take_all}
 use Rattle.operator.specs.Kinds.{SetRule}
 use Rattle.model.specs.Lists.{cases}
 use Rattle.model.specs.Reading.{missing}
 use Rattle.model.specs.Row.{only_missing, zip_with}
 use Rattle.reading.specs.Gaps.{gap_of}
-use Rattle.reading.proofs.Nan.{gap_of_missing, gap_of_reading}
+use Rattle.reading.proofs.AllGaps.{all_gaps, none_told}
+use lib.Bits.{bit_and}
+use lib.Dec.{eqb}
 use Rattle.side_parts.specs.Sides.{row_at}
 use Rattle.plan.specs.Sets.{first_at, set_row}
 use Rattle.index_lists.specs.Places.{Within}
 use Rattle.side_parts.specs.SideLaws as Rows
 use Rattle.set_series.specs.declared.set_points.Hit as Code
-use Rattle.set_series.specs.set_points.Points.{hit_of, on_reading, part_end}
+use Rattle.set_series.specs.set_points.Points.{hit_of, on_reading}
 use Rattle.set_series.proofs.Masks.{gap_there, gap_gone}
 use Rattle.set_series.proofs.set_points.Points.{on_search, set_one, points_from}
 
@@ -33,62 +32,33 @@ not_true : (b : Bool) → not b ≡ true → b ≡ false
 not_true true h = sym h
 not_true false h = refl
 
--- by one right row, a part of it: n of the points before i have a reading
+-- by one right row, a part of it: the gap that all points so far have
 
-pub record Counting (f : ℕ → ℕ → ℕ) (left right : List ℕ) (n i : ℕ) : Type 0 where
-  pub reached : i ≤ length left
-  pub few : n ≤ i
-  pub rest : cond (ltb 0 n) false (only_missing (zip_with f (drop i left) (drop i right)))
-      ≡ only_missing (zip_with f left right)
+zip_more : (f : ℕ → ℕ → ℕ) (i : ℕ) (xs ys : List ℕ) → i < length xs → i < length ys
+    → zip_with f (take (suc i) xs) (take (suc i) ys) ≡ zip_with f (take i xs) (take i ys) ++ f (get_or xs i 0) (get_or ys i 0) ∷ []
+unfolding zip_with
+zip_more f i [] ys h k = absurd (omega arith)
+zip_more f i (x ∷ xs) [] h k = absurd (omega arith)
+zip_more f zero (x ∷ xs) (y ∷ ys) h k = refl
+zip_more f (suc i) (x ∷ xs) (y ∷ ys) h k = ap (λ (l : List ℕ). f x y ∷ l) (zip_more f i xs ys (omega arith) (omega arith))
 
 module _ (f : ℕ → ℕ → ℕ) (left right : List ℕ) where
-  pub count_starts : Counting f left right 0 0
-  count_starts = record { reached = omega arith; few = omega arith; rest = refl }
+  abbrev pub PartGap : ℕ → ℕ → Type 0
+  PartGap gap i = gap ≡ cond (only_missing (zip_with f (take i left) (take i right))) 1 0
 
-  module _ (n i : ℕ) (w : Counting f left right n i) where
-    module _ (same : length right ≡ length left) (h : i < length left) where
-      looked : only_missing (zip_with f (drop i left) (drop i right))
-          ≡ cond (missing (f (get_or left i 0) (get_or right i 0)))
-          (only_missing (zip_with f (drop (suc i) left) (drop (suc i) right))) false
-      unfolding only_missing zip_with
-      looked = rw (drop-cons left i 0 h, drop-cons right i 0 (omega arith))
+  pub part_starts : PartGap 1 0
+  unfolding only_missing zip_with
+  part_starts = refl
 
-      abbrev v : ℕ
-      v = f (get_or left i 0) (get_or right i 0)
+  module _ (gap i : ℕ) (w : PartGap gap i) where
+    pub part_turn : i < length left → i < length right → (x y g : ℕ) → x ≡ get_or left i 0 → y ≡ get_or right i 0
+        → g ≡ gap_of (f x y) → PartGap (bit_and gap g) (i + 1)
+    part_turn h k x y g hx hy e =
+        rw (add-one, zip_more f i left right h k)
+        (all_gaps (zip_with f (take i left) (take i right)) (f (get_or left i 0) (get_or right i 0)) gap g w (e ∙ rw (hx, hy)))
 
-      never : (b : Bool) → cond b false false ≡ false
-      never true = refl
-      never false = refl
-
-      abbrev rest : Bool
-      rest = only_missing (zip_with f (drop (suc i) left) (drop (suc i) right))
-
-      seen : (b : Bool) → missing v ≡ b → cond (ltb 0 n) false (cond b rest false) ≡ only_missing (zip_with f left right)
-      seen b t = ap (λ (r : Bool). cond (ltb 0 n) false r) (sym (looked ∙ rw t)) ∙ w.rest
-
-      counted : (g : ℕ) → g ≡ gap_of v
-          → cond (ltb 0 (n + (1 - g))) false (only_missing (zip_with f (drop (i + 1) left) (drop (i + 1) right)))
-          ≡ only_missing (zip_with f left right)
-      counted g e =
-          cases (missing v)
-          (λ t. rw (e, gap_of_missing v t, add-zero n, add-one) (seen true t))
-          (λ t. rw (e, gap_of_reading v t, lt-ltb 0 (n + 1) (omega arith)) (sym (never (ltb 0 n)) ∙ seen false t))
-
-      pub count_turn : (g : ℕ) → g ≡ gap_of (f (get_or left i 0) (get_or right i 0))
-          → Counting f left right (n + (1 - g)) (i + 1)
-      count_turn g e = record { reached = omega arith; few = omega (arith, w.few); rest = counted g e }
-
-    at_end : (b : Bool) → b ≡ not (cond b false true)
-    at_end true = refl
-    at_end false = refl
-
-    pub count_ends : length left ≤ i → ltb 0 n ≡ not (only_missing (zip_with f left right))
-    unfolding only_missing zip_with
-    count_ends h =
-        let none : only_missing (zip_with f (drop i left) (drop i right)) ≡ true = rw (drop_of_length-le left h) in
-        let told : cond (ltb 0 n) false true ≡ only_missing (zip_with f left right)
-        = ap (λ (b : Bool). cond (ltb 0 n) false b) (sym none) ∙ w.rest in
-        at_end (ltb 0 n) ∙ ap not told
+    pub part_ends : length left ≤ i → length right ≤ i → eqb gap 0 ≡ not (only_missing (zip_with f left right))
+    part_ends h k = rw (w, take_all i left h, take_all i right k) (none_told (only_missing (zip_with f left right)))
 
 -- part by part
 
@@ -110,19 +80,12 @@ pub parts_wide : (k i : ℕ) (left right : List ℕ) → length right ≡ length
     → length (take k (drop i right)) ≡ length (take k (drop i left))
 parts_wide k i left right same = simp (length-take, length-drop, same)
 
-module _ (i n : ℕ) (h : i < n) (e : ℕ) (told : e ≡ part_end i n) where
-  short : ltb (n - i) 32 ≡ true → e ≡ n
-  short t = told ∙ rw t
-
-  whole : ltb (n - i) 32 ≡ false → e ≡ i + 32
-  whole t = told ∙ rw t
-
+module _ (i n : ℕ) (h : i < n) (e : ℕ) (told : e ≡ min n (i + 32)) where
   pub part_behind : i < e
-  part_behind = cases (ltb (n - i) 32) (λ t. omega (arith, h, short t)) (λ t. omega (arith, whole t))
+  part_behind = omega (arith, told)
 
   pub part_within : e ≤ n
-  part_within =
-      cases (ltb (n - i) 32) (λ t. omega (arith, short t)) (λ t. omega (arith, h, whole t, ltb-false (n - i) 32 t))
+  part_within = omega (arith, told)
 
 -- the points before i have no reading
 
@@ -135,7 +98,7 @@ module _ (f : ℕ → ℕ → ℕ) (left right : List ℕ) where
   one_starts = record { reached = omega arith; rest = refl }
 
   module _ (i : ℕ) (w : OneLeaving f left right i) where
-    module _ (same : length right ≡ length left) (h : i < length left) (e : ℕ) (told : e ≡ part_end i (length left))
+    module _ (same : length right ≡ length left) (h : i < length left) (e : ℕ) (told : e ≡ min (length left) (i + 32))
         (b : Bool)
         (part : b ≡ not (only_missing (zip_with f (take (e - i) (drop i left)) (take (e - i) (drop i right))))) where
       abbrev mine : Bool

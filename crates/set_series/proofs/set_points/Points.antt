@@ -4,12 +4,11 @@ use Prim.Native.Nat.{ℕ, suc, ◌+◌, ◌*◌, ◌≤◌, ◌<◌}
 use mathlib.Core.Path.{◌≡◌, refl, sym, ap, ◌∙◌}
 use mathlib.Core.Bool.{Bool, false}
 use mathlib.Core.Option.{Option, none, some}
-use mathlib.Core.List.{List, [], ◌∷◌, ◌++◌, append-nil}
-use native.Mathlib.Numerals.{add-one}
+use mathlib.Core.List.{List, [], ◌∷◌}
 use native.Mathlib.Nat.{add-zero, add-suc, suc-add, zero-add}
 use native.Mathlib.Omega.{arith}
-use lib.ListN.{length, get_or, take, drop, set, length-set, length-take, length-drop, drop_of_length-le}
-use lib.Seq.{drop-cons, take-suc-set, append_snoc, take_all, get_or-take, get_or-drop}
+use lib.ListN.{length, get_or, drop, length-take, length-drop}
+use lib.Seq.{get_or-take, get_or-drop}
 use Rattle.operator.specs.Kinds.{SetRule, where_found, where_none, filled}
 use Rattle.model.specs.Lists.{cases}
 use Rattle.model.specs.Reading.{missing, no_reading}
@@ -17,7 +16,6 @@ use Rattle.model.specs.Row.{zip_with}
 use Rattle.semantics.specs.Binop.{pointwise}
 use Rattle.side_parts.specs.Sides.{row_at}
 use Rattle.plan.specs.Sets.{Hit, first_at, set_point, set_row}
-use Rattle.set_series.specs.declared.set_points.Hit as Code
 use Rattle.set_series.specs.set_points.Points.{hit_of, on_reading}
 use Rattle.set_series.proofs.Masks.{none_missing}
 use Rattle.set_series.proofs.set_points.Searching.{any_default}
@@ -99,37 +97,27 @@ set_one rule rows j x h =
 abbrev pub points_from : SetRule → ℕ → List ℕ → List ℕ → ℕ → List ℕ → List ℕ
 points_from rule p rows places i xs = pointwise (λ j. set_point rule (first_at p rows j places)) i xs
 
--- a row written point by point: i points are written
+-- a row that has the rule's reading at each point
 
-pub record SetWriting (rule : SetRule) (rows places left before row : List ℕ) (i : ℕ) : Type 0 where
-  pub long : length row ≡ length before
-  pub reached : i ≤ length row
-  pub rest : take i row ++ points_from rule (length left) rows places i (drop i left) ≡ set_row rule (length left) rows places left
+point_by_point : (g : ℕ → ℕ → ℕ) (k : ℕ) (xs out : List ℕ) → length xs ≡ length out
+    → ((i : ℕ) → i < length out → get_or out i 0 ≡ g (k + i) (get_or xs i 0)) → out ≡ pointwise g k xs
+point_by_point g k [] [] e h = refl
+point_by_point g k [] (y ∷ out) e h = absurd (omega arith)
+point_by_point g k (x ∷ xs) [] e h = absurd (omega arith)
+point_by_point g k (x ∷ xs) (y ∷ out) e h =
+    let first : y ≡ g k x = h 0 (omega arith) ∙ ap (λ (n : ℕ). g n x) (add-zero k) in
+    rw (
+      first,
+      point_by_point g (suc k) xs out (omega arith)
+          (λ i l. h (suc i) (omega arith) ∙ ap (λ (n : ℕ). g n (get_or xs i 0)) (add-suc k i ∙ sym (suc-add k i))),
+    )
 
-module _ (rule : SetRule) (rows places left before : List ℕ) where
-  pub set_starts : SetWriting rule rows places left before before 0
-  unfolding set_row
-  set_starts = record { long = refl; reached = omega arith; rest = refl }
-
-  module _ (row : List ℕ) (i : ℕ) (w : SetWriting rule rows places left before row i) (same : length left ≡ length before) where
-    step : (v : ℕ) (y : Code.Hit) → v ≡ on_reading rule (get_or left i 0) y.reading
-        → y ≡ hit_of (first_at (length left) rows i places)
-        → i < length left → i < length row
-        → take (i + 1) (set row i v) ++ points_from rule (length left) rows places (i + 1) (drop (i + 1) left)
-        ≡ take i row ++ points_from rule (length left) rows places i (drop i left)
-    step v y e f hl ho =
-        rw (e, f, ← on_search rule (length left) rows i places (get_or left i 0), add-one, take-suc-set, append_snoc, drop-cons left i 0 hl)
-
-    pub set_turn : (v : ℕ) (y : Code.Hit) → v ≡ on_reading rule (get_or left i 0) y.reading
-        → y ≡ hit_of (first_at (length left) rows i places)
-        → i < length row → SetWriting rule rows places left before (set row i v) (i + 1)
-    set_turn v y e f h = record {
-      long = simp length-set w.long;
-      reached = simp length-set (omega arith);
-      rest = step v y e f (omega (arith, w.long)) h ∙ w.rest;
-    }
-
-    pub set_ends : length row ≤ i → row ≡ set_row rule (length left) rows places left
-    set_ends h =
-        let k : length left ≤ i = omega (arith, w.long) in
-        sym (rw (take_all i row h, drop_of_length-le left k, append-nil)) ∙ w.rest
+pub set_by_point : (rule : SetRule) (rows places left out : List ℕ) → length left ≡ length out
+    → ((i : ℕ) → i < length out
+    → get_or out i 0 ≡ on_reading rule (get_or left i 0) (hit_of (first_at (length left) rows i places)).reading)
+    → out ≡ set_row rule (length left) rows places left
+unfolding set_row
+set_by_point rule rows places left out e h =
+    point_by_point (λ i. set_point rule (first_at (length left) rows i places)) 0 left out e
+    (λ i l. h i l ∙ sym (on_search rule (length left) rows i places (get_or left i 0))
+    ∙ ap (λ (n : ℕ). set_point rule (first_at (length left) rows n places) (get_or left i 0)) (sym (zero-add i)))

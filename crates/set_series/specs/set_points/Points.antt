@@ -1,5 +1,5 @@
 -- A set rule at one point: the code's rule, and a right reading that may be missing. Assumes nothing.
-use Rattle.std.specs.Prelude.{ℕ, ◌+◌, ◌-◌, cond, ltb}
+use Rattle.std.specs.Prelude.{ℕ, cond}
 use Rattle.std.proofs.Math.Option.{Option, none, some}
 use Rattle.operator.specs.Kinds as K
 use Rattle.operator.specs.Kinds.{where_found, where_none, filled}
@@ -28,7 +28,3 @@ present j y = cond (missing y) none (some (record { place = j; reading = y }))
 -- the rule on a left reading and one right reading, wherever it stands
 unfoldable pub on_reading : K.SetRule → ℕ → ℕ → ℕ
 on_reading rule x y = set_point rule (present 0 y) x
-
--- where a part of a row of n points ends that begins at the point i
-abbrev pub part_end : ℕ → ℕ → ℕ
-part_end i n = cond (ltb (n - i) 32) n (i + 32)

@@ -1,10 +1,10 @@
 -- `signature::hash_bytes` meets its contract. Assumes nothing.
-use borrow.Author.Rules.{rules}
+use Rattle.std.proofs.Common.{rules}
 use Rattle.chosen_tags.proofs.Keys.{hash_turn, hash_end}
 use Rattle.signature.proofs.hash_bytes.Goals as goal
 
-pub loop-i-preserved : goal.loop-i-preserved
-loop-i-preserved c = (search rules, search hash_turn)
+pub loop-b-preserved : goal.loop-b-preserved
+loop-b-preserved c = search (rules, hash_turn)
 
 pub returns : goal.returns
-returns c = search hash_end
+returns c = search (rules, hash_end)

@@ -1,25 +1,15 @@
 -- `signature::hash_key` meets its contract. Assumes nothing.
-use Rattle.record_tags.proofs.Cursors.{span_order, span_within, next_fewer}
+use Rattle.std.proofs.Common.{ap, ◌∙◌}
+use Rattle.chosen_tags.specs.Chosen.{chosen_left}
 use Rattle.chosen_tags.proofs.Keys.{hash_start, hash_done, hash_one}
 use Rattle.signature.proofs.hash_key.Goals as goal
 
-pub loop-start-init : goal.loop-start-init
-loop-start-init c = hash_start _ _ _ _ c.tags_of-t.ensures.tags
+pub loop-tag-init : goal.loop-tag-init
+loop-tag-init c = hash_start _ _ (ap chosen_left c.into_iter-tag-iterator.ensures.into_iter_gives ∙ c.chosen_of-tag-items.ensures)
 
-pub returns-in_default : goal.returns-in_default
-returns-in_default c = search hash_done
+pub loop-tag-preserved : goal.loop-tag-preserved
+loop-tag-preserved c =
+    hash_one _ _ _ c.loop-tag.invariant _ _ c.in-Some.ensures.steps _ c.in-Some.tag.whole _ c.hash_bytes-x.ensures
 
-pub slice_bounds-hash_bytes-count : goal.slice_bounds-hash_bytes-count
-slice_bounds-hash_bytes-count c = search span_order
-
-pub slice_bounds-hash_bytes-start : goal.slice_bounds-hash_bytes-start
-slice_bounds-hash_bytes-start c = search span_order
-
-pub slice_bounds-hash_bytes-end : goal.slice_bounds-hash_bytes-end
-slice_bounds-hash_bytes-end c = search span_within
-
-pub loop-start-smaller : goal.loop-start-smaller
-loop-start-smaller c = search next_fewer
-
-pub loop-start-preserved : goal.loop-start-preserved
-loop-start-preserved c = search hash_one
+pub returns : goal.returns
+returns c = hash_done _ _ _ c.loop-tag.invariant c.in-None.ensures.steps.0

@@ -1,13 +1,11 @@
 -- `signature::hash_key` meets its contract. Assumes nothing.
-use Rattle.model.specs.Query.{key_of}
-use Rattle.labels.specs.Names.{names_of}
+use Rattle.std.proofs.Common.{◌≡◌}
+use Rattle.model.specs.Record.{encode_tags}
 use Rattle.labels.specs.Matchings.{matching_of}
-use Rattle.chosen_tags.specs.Keys.{record_key, hash_of}
-use Rattle.chosen_tags.proofs.Keys.{HashLeft}
+use Rattle.chosen_tags.specs.Keys.{record_key, hash_bytes, hash_of}
+use Rattle.chosen_tags.specs.Chosen.{chosen_left}
 use Rattle.signature.proofs.hash_key.Given as goal
 
-abbrev pub invariant-loop-start : goal.invariant-loop-start
-invariant-loop-start l = HashLeft (key_of (matching_of l.matching) (names_of l.list)) l.rec l.n l.p l.x (hash_of (record_key (matching_of l.matching) l.list l.rec))
-
-abbrev pub decreases-loop-start : goal.decreases-loop-start
-decreases-loop-start l = l.n
+abbrev pub invariant-loop-tag : goal.invariant-loop-tag
+invariant-loop-tag l =
+    hash_of (record_key (matching_of l.fn.matching) l.list l.rec) ≡ hash_bytes l.x (encode_tags (chosen_left l.tag-iterator))

@@ -1,43 +1,26 @@
 -- `signature::same_key` meets its contract. Assumes nothing.
-use Rattle.record_tags.proofs.Cursors.{span_order, span_within, next_fewer}
-use Rattle.chosen_tags.proofs.Keys.{same_start, both_end, first_ends, second_ends, tags_differ, same_turn}
+use Rattle.std.proofs.Common.{ap, ◌∙◌}
+use Rattle.chosen_tags.specs.Chosen.{chosen_left}
+use Rattle.chosen_tags.proofs.Keys.{same_start, second_ends, tags_differ, same_turn, last_end}
 use Rattle.signature.proofs.same_key.Goals as goal
 
-pub loop-start-init : goal.loop-start-init
-loop-start-init c = same_start _ _ _ _ _ _ _ c.tags_of-h.ensures.tags c.tags_of-k.ensures.tags
+pub loop-tag-init : goal.loop-tag-init
+loop-tag-init c =
+    same_start _ _ _ _ (ap chosen_left c.into_iter-tag-iterator.ensures.into_iter_gives ∙ c.chosen_of-tag-items.ensures) c.chosen_of-others.ensures
 
-pub slice_bounds-same_bytes-count : goal.slice_bounds-same_bytes-count
-slice_bounds-same_bytes-count c = search span_order
+pub returns-then-not-same_bytes : goal.returns-then-not-same_bytes
+returns-then-not-same_bytes c =
+    tags_differ _ _ _ c.loop-tag.invariant _ _ c.in-Some.ensures.steps _ _ c.in-Some-next.ensures.steps
+    _ _ c.in-Some.tag.whole c.in-Some-next.other.whole _ c.same_bytes.ensures c.if-not-same_bytes.true
 
-pub slice_bounds-same_bytes-start : goal.slice_bounds-same_bytes-start
-slice_bounds-same_bytes-start c = search span_order
+pub loop-tag-preserved : goal.loop-tag-preserved
+loop-tag-preserved c =
+    same_turn _ _ _ c.loop-tag.invariant _ _ c.in-Some.ensures.steps _ _ c.in-Some-next.ensures.steps
+    _ _ c.in-Some.tag.whole c.in-Some-next.other.whole _ c.same_bytes.ensures c.if-not-same_bytes.false
 
-pub slice_bounds-same_bytes-end : goal.slice_bounds-same_bytes-end
-slice_bounds-same_bytes-end c = search span_within
+pub returns-in-None-next : goal.returns-in-None-next
+returns-in-None-next c = second_ends _ _ _ c.loop-tag.invariant _ _ c.in-Some.ensures.steps c.in-None-next.ensures.steps.0
 
-pub slice_bounds-same_bytes-count-in-Tag-y : goal.slice_bounds-same_bytes-count-in-Tag-y
-slice_bounds-same_bytes-count-in-Tag-y c = search span_order
-
-pub slice_bounds-same_bytes-start-in-Tag-y : goal.slice_bounds-same_bytes-start-in-Tag-y
-slice_bounds-same_bytes-start-in-Tag-y c = search span_order
-
-pub slice_bounds-same_bytes-end-in-Tag-y : goal.slice_bounds-same_bytes-end-in-Tag-y
-slice_bounds-same_bytes-end-in-Tag-y c = search span_within
-
-pub loop-start-smaller : goal.loop-start-smaller
-loop-start-smaller c = search next_fewer
-
-pub loop-start-preserved : goal.loop-start-preserved
-loop-start-preserved c = search same_turn
-
-pub returns-else-same_bytes : goal.returns-else-same_bytes
-returns-else-same_bytes c = search tags_differ
-
-pub returns-in-End-y : goal.returns-in-End-y
-returns-in-End-y c = search second_ends
-
-pub returns-in-Tag-y-2 : goal.returns-in-Tag-y-2
-returns-in-Tag-y-2 c = search first_ends
-
-pub returns-in-End-y-2 : goal.returns-in-End-y-2
-returns-in-End-y-2 c = search both_end
+pub returns : goal.returns
+returns c =
+    last_end chosen_left _ _ c.loop-tag.others c.next-2.new.self _ c.loop-tag.invariant c.in-None.ensures.steps.0 c.next-2.ensures.steps _ c.is_none.ensures

@@ -1,15 +1,12 @@
 -- `signature::same_key` meets its contract. Assumes nothing.
-use Rattle.chosen_tags.proofs.Keys.{SameLeft}
+use Rattle.std.proofs.Common.{◌≡◌}
 use Rattle.model.specs.Labels.{same_tags}
-use Rattle.model.specs.Query.{key_of}
-use Rattle.labels.specs.Names.{names_of}
 use Rattle.labels.specs.Matchings.{matching_of}
 use Rattle.chosen_tags.specs.Keys.{record_key}
+use Rattle.chosen_tags.specs.Chosen.{chosen_left}
 use Rattle.signature.proofs.same_key.Given as goal
 
-abbrev pub invariant-loop-start : goal.invariant-loop-start
-invariant-loop-start l = SameLeft (key_of (matching_of l.matching) (names_of l.list)) l.a l.b l.m l.p l.n l.q
-    (same_tags (record_key (matching_of l.matching) l.list l.a) (record_key (matching_of l.matching) l.list l.b))
-
-abbrev pub decreases-loop-start : goal.decreases-loop-start
-decreases-loop-start l = l.m
+abbrev pub invariant-loop-tag : goal.invariant-loop-tag
+invariant-loop-tag l =
+    same_tags (record_key (matching_of l.fn.matching) l.list l.a) (record_key (matching_of l.fn.matching) l.list l.b)
+    ≡ same_tags (chosen_left l.tag-iterator) (chosen_left l.others)

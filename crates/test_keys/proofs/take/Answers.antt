@@ -5,5 +5,5 @@ use Rattle.test_keys.proofs.take.Goals as goal
 pub overflow_add-result : goal.overflow_add-result
 overflow_add-result g c = search entry_fits
 
-pub returns-in-Vector : goal.returns-in-Vector
-returns-in-Vector g c = search side_at_lem
+pub returns-in-Ok : goal.returns-in-Ok
+returns-in-Ok g c = search side_at_lem

@@ -1,7 +1,7 @@
 -- `walk_records`: what is left to walk gives what the whole gives, and the positions noted so far come before those left to note.
 -- Assumes nothing.
 use Prim.Native.Nat.{ℕ, suc, ◌+◌, ◌-◌, ◌≤◌, ◌<◌}
-use mathlib.Core.Path.{◌≡◌, refl, sym, ap, ◌∙◌}
+use mathlib.Core.Path.{◌≡◌, refl, sym, ap, subst, ◌∙◌}
 use mathlib.Core.List.{List, [], ◌∷◌}
 use native.Mathlib.Numerals.{add-one}
 use native.Mathlib.Omega.{arith}
@@ -12,10 +12,12 @@ use Rattle.model.specs.Record.{Decoded, decoded, cut, bad_key, decode}
 use Rattle.model.specs.Vector.{Records, records, bad_record, with_record, on_decoded, records_in}
 use Rattle.label_records.specs.Records.{refusal, record_answer, decoded_answer}
 use Rattle.record_tags.specs.Lenient.{RecordAt, record_found}
-use Rattle.label_records.specs.declared.Record.{Record}
-use Rattle.label_records.specs.declared.Record.TheVariants as R
-use Rattle.timeseries.specs.record_walk.Walks.{whole, fault, records_answer, on_rest, noted, WalkedInto}
-use Rattle.timeseries.specs.declared.record_walk.Walked.TheVariants as W
+use Rattle.std.specs.Prelude.{Result, Ok, Err, MatchResult, IsErrAnd}
+use Rattle.label_records.specs.declared.RecordFault.{RecordFault}
+use Rattle.label_records.specs.declared.RecordFault.TheVariants as R
+use Rattle.timeseries.specs.record_walk.Walks.{whole, fault, record_fault, records_answer, on_rest, noted, WalkedInto}
+use Rattle.timeseries.specs.declared.VectorFault.{VectorFault}
+use Rattle.timeseries.specs.declared.VectorFault.TheVariants as W
 
 -- i records are walked, up to p
 pub record Walking (array : List ℕ) (n : ℕ) (before at : List ℕ) (i p : ℕ) : Type 0 where
@@ -69,24 +71,22 @@ module _ (array : List ℕ) (n : ℕ) (before at : List ℕ) (i p : ℕ) (v : Wa
         ∙ ap (sets at i) (noted_one (length array) (n - (i + 1)) (drop p array)
         ∙ ap (λ (x : ℕ). x ∷ on_rest (decode (drop p array)) (noted (length array) (n - (i + 1)))) start_here)
 
-    module _ (x : Record) (hx : record_answer x ≡ decoded_answer (length array) (decode (drop p array))) where
-      pub walk_cut : x ≡ R.Cut → WalkedInto n array before (W.Cut i) (set at i p)
-      walk_cut ex = go (decode (drop p array)) refl (rw ex at hx)
+    module _ (x : Result ℕ RecordFault) (hx : record_answer x ≡ decoded_answer (length array) (decode (drop p array))) where
+      walk_failed : (f : RecordFault) → x ≡ Err f → WalkedInto n array before (Err (record_fault f i)) (set at i p)
+      walk_failed R.Cut ex = go (decode (drop p array)) refl (rw ex at hx)
         where
           go : (d : Decoded) → decode (drop p array) ≡ d → refusal 3 ≡ decoded_answer (length array) d
-              → WalkedInto n array before (W.Cut i) (set at i p)
+              → WalkedInto n array before (Err (W.Cut i)) (set at i p)
           go (decoded l r) e f = absurd (let z : ◌≡◌ {A = ℕ} 0 1 = cc in omega arith)
           go bad_key e f = absurd (let z : ◌≡◌ {A = ℕ} 3 4 = cc in omega arith)
           go cut e f = record {
             answer = sym (outcome_step ∙ rw e);
             positions = sym (positions_step ∙ rw e);
           }
-
-      pub walk_bad : x ≡ R.BadKey → WalkedInto n array before (W.BadKey i) (set at i p)
-      walk_bad ex = go (decode (drop p array)) refl (rw ex at hx)
+      walk_failed R.BadKey ex = go (decode (drop p array)) refl (rw ex at hx)
         where
           go : (d : Decoded) → decode (drop p array) ≡ d → refusal 4 ≡ decoded_answer (length array) d
-              → WalkedInto n array before (W.BadKey i) (set at i p)
+              → WalkedInto n array before (Err (W.BadKey i)) (set at i p)
           go (decoded l r) e f = absurd (let z : ◌≡◌ {A = ℕ} 0 1 = cc in omega arith)
           go cut e f = absurd (let z : ◌≡◌ {A = ℕ} 3 4 = cc in omega arith)
           go bad_key e f = record {
@@ -94,7 +94,7 @@ module _ (array : List ℕ) (n : ℕ) (before at : List ℕ) (i p : ℕ) (v : Wa
             positions = sym (positions_step ∙ rw e);
           }
 
-      pub walk_turn : (next : ℕ) → x ≡ R.Ok next → Walking array n before (set at i p) (i + 1) next
+      walk_turn : (next : ℕ) → x ≡ Ok next → Walking array n before (set at i p) (i + 1) next
       walk_turn next ex =
           let w : RecordAt array p next = record_found array p next x hx ex in
           record {
@@ -104,6 +104,28 @@ module _ (array : List ℕ) (n : ℕ) (before at : List ℕ) (i p : ℕ) (v : Wa
             outcome = outcome_step ∙ rw (w.decoded_as, walked_later w.labels (records_in (n - (i + 1)) (suc i) (drop next array)), add-one);
             positions = positions_step ∙ rw (w.decoded_as, add-one);
           }
+
+      -- as the code tells it: y is x with the record's place
+      module _ (y : Result ℕ VectorFault) (P : RecordFault → VectorFault → Type 0)
+          (m : MatchResult x (λ v. y ≡ Ok v) (λ e. IsErrAnd y (P e))) where
+        pub walk_told : ((e : RecordFault) (f : VectorFault) → P e f → f ≡ record_fault e i) → (f : VectorFault)
+            → y ≡ Err f → WalkedInto n array before (Err f) (set at i p)
+        walk_told tells f ey = go x refl m
+          where
+            go : (u : Result ℕ RecordFault) → x ≡ u → MatchResult u (λ v. y ≡ Ok v) (λ e. IsErrAnd y (P e))
+                → WalkedInto n array before (Err f) (set at i p)
+            go (Ok v) ex m = absurd (let z : ◌≡◌ {A = ℕ} 0 1 = cc in omega arith)
+            go (Err e) ex m = rw (tells e f (subst (λ y. IsErrAnd y (P e)) ey m)) (walk_failed e ex)
+
+        went : (next : ℕ) → y ≡ Ok next → x ≡ Ok next
+        went next ey = go x m
+          where
+            go : (u : Result ℕ RecordFault) → MatchResult u (λ v. y ≡ Ok v) (λ e. IsErrAnd y (P e)) → u ≡ Ok next
+            go (Ok v) m = cc
+            go (Err e) m = elim (subst (λ y. IsErrAnd y (P e)) ey m) [ ]
+
+        pub walk_on : (next : ℕ) → y ≡ Ok next → Walking array n before (set at i p) (i + 1) next
+        walk_on next ey = walk_turn next (went next ey)
 
   module _ (h : n ≤ i) where
     at_end : i ≡ n
@@ -130,8 +152,8 @@ module _ (array : List ℕ) (n : ℕ) (before at : List ℕ) (i p : ℕ) (v : Wa
     unfolding records_in
     all_read k = rw (drop_of_length-le array k)
 
-    pub walk_over : p < length array → WalkedInto n array before (W.Cut n) (set at n p)
+    pub walk_over : p < length array → WalkedInto n array before (Err (W.Cut n)) (set at n p)
     walk_over k = record { answer = sym (outcome_end ∙ left_over k ∙ ap (fault 3) at_end); positions = sym positions_end }
 
-    pub walk_whole : length array ≤ p → WalkedInto n array before W.Whole (set at n p)
+    pub walk_whole : length array ≤ p → WalkedInto n array before (Ok tt) (set at n p)
     walk_whole k = record { answer = sym (outcome_end ∙ all_read k); positions = sym positions_end }

@@ -6,17 +6,19 @@ use native.Mathlib.Omega.{arith}
 use lib.ListN.{length, take, drop, length-drop, drop_of_length-le}
 use lib.Seq.{drop-cons, drop-drop, take_all}
 use borrow.Author.Tests.{le-leb, lt-leb}
-use Rattle.fields.specs.declared.Place.{Place}
-use Rattle.fields.specs.declared.Place.TheVariants.{At, Short}
-use Rattle.vecop_run.specs.frame.Frames.{part, cut_part, read_part, ending, framed, max_input}
+use Rattle.std.specs.Prelude.{Some, None}
+use Rattle.std.specs.declared.option.Option.{Option}
+use Rattle.fields.specs.Fields.{some_span}
+use Rattle.fields.specs.declared.Span.{Span}
+use Rattle.vecop_run.specs.frame.Frames.{part, read_part, ending, framed, max_input}
 use Rattle.model.specs.Vector.{four_bytes_at}
 use Rattle.little_endian.specs.Numbers.{Read}
 use Rattle.vecop_run.specs.frame.Found.{PartFound, PartsFound}
-use Rattle.vecop_run.specs.declared.frame.Parts.TheVariants.{Three, Unreadable}
+use Rattle.vecop_run.specs.declared.frame.Parts.{Parts}
 use Rattle.vecop_run.proofs.frame.Numbers.{four_here}
 
 module _ (s : List ℕ) (at : ℕ) (ha : at ≤ length s) where
-  pub length_cut : length s - at < 4 → PartFound s at Short
+  pub length_cut : length s - at < 4 → PartFound s at None
   unfolding read_part
   length_cut h = record { read = rw (lt-leb 4 (length (drop at s)) (omega (arith, length-drop at s))); within = tt }
 
@@ -27,7 +29,7 @@ module _ (s : List ℕ) (at : ℕ) (ha : at ≤ length s) where
     size : four_bytes_at (drop at s) 0 ≡ n
     size = four_here s at ∙ sym hn.value
 
-    pub part_here : n ≤ length s - (at + 4) → PartFound s at (At (at + 4) (at + 4 + n))
+    pub part_here : n ≤ length s - (at + 4) → PartFound s at (some_span (at + 4) (at + 4 + n))
     unfolding read_part
     part_here h =
         let e : at + 4 + n - (at + 4) ≡ n = omega arith in
@@ -44,7 +46,7 @@ module _ (s : List ℕ) (at : ℕ) (ha : at ≤ length s) where
           within = (refl, omega arith, omega arith);
         }
 
-    pub part_cut : length s - (at + 4) < n → PartFound s at Short
+    pub part_cut : length s - (at + 4) < n → PartFound s at None
     unfolding read_part
     part_cut h =
         record {
@@ -59,73 +61,70 @@ pub record Standing (s : List ℕ) (at end : ℕ) : Type 0 where
   pub order : at + 4 ≤ end
   pub within : end ≤ length s
 
-stands : (s : List ℕ) (at : ℕ) (x : Place) → PartFound s at x → (a e : ℕ) → x ≡ At a e → Standing s at e
-stands s at x f a e h = go (rw h at f)
-  where
-    go : PartFound s at (At a e) → Standing s at e
-    go g = record { read = rw (← g.within.0) g.read; order = omega (arith, g.within.0, g.within.1); within = g.within.2 }
+stands : (s : List ℕ) (at : ℕ) (x : Span) → PartFound s at (Some x) → Standing s at x.end
+stands s at x f =
+    record { read = rw (← f.within.0) f.read; order = omega (arith, f.within.0, f.within.1); within = f.within.2 }
 
-missing : (s : List ℕ) (at : ℕ) (x : Place) → PartFound s at x → x ≡ Short → read_part (drop at s) ≡ cut_part
-missing s at x f h = go (rw h at f)
-  where
-    go : PartFound s at Short → read_part (drop at s) ≡ cut_part
-    go g = g.read
+pub part_end_lem : (s : List ℕ) (at : ℕ) (x : Span) → PartFound s at (Some x) → x.end ≤ length s
+part_end_lem s at x f = f.within.2
 
-pub part_end_lem : (s : List ℕ) (at : ℕ) (x : Place) (a e : ℕ) → PartFound s at x → x ≡ At a e → e ≤ length s
-part_end_lem s at x a e f h = (stands s at x f a e h).within
-
-pub input_long : (s : List ℕ) → max_input < length s → PartsFound s Unreadable
+pub input_long : (s : List ℕ) → max_input < length s → PartsFound s None
 unfolding framed
 input_long s h = record { parts = rw (lt-leb (length s) max_input h); within = tt }
 
-module _ (s : List ℕ) (short : length s ≤ max_input) (x : Place) (fx : PartFound s 0 x) where
-  pub first_cut : x ≡ Short → PartsFound s Unreadable
+-- what a part that is cut leaves of the answer r
+module _ (s : List ℕ) (short : length s ≤ max_input) (r : Option Parts) (none : r ≡ None) where
+  pub first_cut : PartFound s 0 None → PartsFound s r
   unfolding framed
-  first_cut e = record { parts = rw (le-leb (length s) max_input short, missing s 0 x fx e); within = tt }
+  first_cut f = rw none (record { parts = rw (le-leb (length s) max_input short, f.read); within = tt })
 
-  module _ (a q : ℕ) (ex : x ≡ At a q) (y : Place) (fy : PartFound s q y) where
-    pub second_cut : y ≡ Short → PartsFound s Unreadable
+  module _ (a : Span) (fa : PartFound s 0 (Some a)) where
+    pub second_cut : PartFound s a.end None → PartsFound s r
     unfolding framed
-    second_cut e =
-        record { parts = rw (le-leb (length s) max_input short, (stands s 0 x fx a q ex).read, missing s q y fy e); within = tt }
+    second_cut f =
+        rw none (record { parts = rw (le-leb (length s) max_input short, (stands s 0 a fa).read, f.read); within = tt })
 
-    module _ (b l : ℕ) (ey : y ≡ At b l) (z : Place) (fz : PartFound s l z) where
-      pub third_cut : z ≡ Short → PartsFound s Unreadable
-      unfolding framed
-      third_cut e =
-          record {
-            parts = rw (le-leb (length s) max_input short, (stands s 0 x fx a q ex).read, (stands s q y fy b l ey).read, missing s l z fz e);
-            within = tt;
-          }
+    pub third_cut : (b : Span) → PartFound s a.end (Some b) → PartFound s b.end None → PartsFound s r
+    unfolding framed
+    third_cut b fb f =
+        rw none
+        (record {
+          parts = rw (le-leb (length s) max_input short, (stands s 0 a fa).read, (stands s a.end b fb).read, f.read);
+          within = tt;
+        })
 
-      module _ (d e : ℕ) (ez : z ≡ At d e) where
-        first : Standing s 0 q
-        first = stands s 0 x fx a q ex
+-- three parts, and what follows them
+module _ (s : List ℕ) (short : length s ≤ max_input) (a b d : Span) (fa : PartFound s 0 (Some a))
+    (fb : PartFound s a.end (Some b)) (fd : PartFound s b.end (Some d)) where
+  first : Standing s 0 a.end
+  first = stands s 0 a fa
 
-        second : Standing s q l
-        second = stands s q y fy b l ey
+  second : Standing s a.end b.end
+  second = stands s a.end b fb
 
-        third : Standing s l e
-        third = stands s l z fz d e ez
+  third : Standing s b.end d.end
+  third = stands s b.end d fd
 
-        all_read : framed s ≡ ending (take (q - 4) (drop 4 s)) (take (l - (q + 4)) (drop (q + 4) s)) (take (e - (l + 4)) (drop (l + 4) s)) (drop e s)
-        unfolding framed
-        all_read = rw (le-leb (length s) max_input short, first.read, second.read, third.read)
+  all_read : framed s
+      ≡ ending (take (a.end - 4) (drop 4 s)) (take (b.end - (a.end + 4)) (drop (a.end + 4) s))
+      (take (d.end - (b.end + 4)) (drop (b.end + 4) s)) (drop d.end s)
+  unfolding framed
+  all_read = rw (le-leb (length s) max_input short, first.read, second.read, third.read)
 
-        pub left_over : (e ≡ length s → ⊥) → PartsFound s Unreadable
-        left_over h =
-            let more : e < length s = lt_of third.within h in
-            record { parts = all_read ∙ rw (drop-cons s e 0 more); within = tt }
-          where
-            lt_of : e ≤ length s → (e ≡ length s → ⊥) → e < length s
-            lt_of g k = omega (arith, g, k)
+  pub left_over : (d.end ≡ length s → ⊥) → PartsFound s None
+  left_over h =
+      let more : d.end < length s = lt_of third.within h in
+      record { parts = all_read ∙ rw (drop-cons s d.end 0 more); within = tt }
+    where
+      lt_of : d.end ≤ length s → (d.end ≡ length s → ⊥) → d.end < length s
+      lt_of g k = omega (arith, g, k)
 
-        pub three_parts : e ≡ length s → PartsFound s (Three q l)
-        three_parts h =
-            let all : take (e - (l + 4)) (drop (l + 4) s) ≡ drop (l + 4) s =
-            take_all (e - (l + 4)) (drop (l + 4) s) (omega (arith, length-drop (l + 4) s)) in
-            let none : drop e s ≡ [] = drop_of_length-le s {i = e} (omega arith) in
-            record {
-              parts = all_read ∙ rw (all, none);
-              within = (first.order, second.order, omega (arith, third.order, h), short);
-            }
+  pub three_parts : d.end ≡ length s → PartsFound s (Some (record { query = a.end; left = b.end }))
+  three_parts h =
+      let all : take (d.end - (b.end + 4)) (drop (b.end + 4) s) ≡ drop (b.end + 4) s =
+      take_all (d.end - (b.end + 4)) (drop (b.end + 4) s) (omega (arith, length-drop (b.end + 4) s)) in
+      let none : drop d.end s ≡ [] = drop_of_length-le s {i = d.end} (omega arith) in
+      record {
+        parts = all_read ∙ rw (all, none);
+        within = (first.order, second.order, omega (arith, third.order, h), short);
+      }

@@ -1,5 +1,5 @@
 -- A vector's part: where its labels end, and its readings. Assumes nothing.
-use Prim.Native.Nat.{ℕ, zero, suc, ◌+◌, ◌*◌, ◌-◌, ◌≤◌, ◌<◌}
+use Prim.Native.Nat.{ℕ, zero, suc, ◌+◌, ◌*◌, ◌-◌, ◌≤◌, ◌<◌, min}
 use mathlib.Core.Path.{◌≡◌, refl, sym, ap, ◌∙◌}
 use mathlib.Core.Bool.{cond}
 use mathlib.Core.List.{List, [], ◌∷◌, ◌++◌}
@@ -13,6 +13,7 @@ use Rattle.model.specs.Vector.{two_bytes_at, eight_bytes_at}
 use Rattle.little_endian.specs.Numbers.{Read}
 use Rattle.writing.specs.Written.{Put}
 use Rattle.writing.proofs.Written.{Rest, rest_start, rest_put, rest_done, put_byte_done, written_none}
+use Rattle.std.proofs.lemmas.List.{take_min, drop_min}
 use Rattle.vecop_run.specs.frame.Sides.{labels_size, reading_bytes, reading_count, words_in, other_than, readings_in}
 use Rattle.vecop_run.specs.frame.SideLaws.{words_length}
 use Rattle.vecop_run.specs.frame.Found.{Split}
@@ -30,26 +31,25 @@ pub split_short : (v : List ℕ) → length v < sizes_length → Split v (length
 split_short v h = split_all v (omega arith)
 
 module _ (v : List ℕ) (size : ℕ) (hs : Read (two_bytes_at v 4) 65536 size) where
-  pub split_cut : length v ≤ sizes_length + size → Split v (length v)
-  split_cut h = split_all v (omega (arith, hs.value))
-
-  pub split_here : sizes_length + size < length v → Split v (sizes_length + size)
-  split_here h =
+  pub split_least : (r : ℕ) → r ≡ min (sizes_length + size) (length v) → Split v r
+  split_least r h =
       let e : labels_size v ≡ sizes_length + size = omega (arith, hs.value) in
-      record { labels = rw e; readings = rw e; within = omega arith }
+      record {
+        labels = rw (h, e) (take_min (sizes_length + size) v);
+        readings = rw (h, e) (drop_min (sizes_length + size) v);
+        within = omega (arith, h);
+      }
 
 -- the loop of `read_words`
-pub record WordsLeft (s : List ℕ) (k : ℕ) (d₀ d : List ℕ) (i p : ℕ) : Type 0 where
-  pub place : p ≡ 8 * i
+pub record WordsLeft (s : List ℕ) (k : ℕ) (d₀ d : List ℕ) (i : ℕ) : Type 0 where
   pub some : i ≤ k
   pub size : length d ≡ length d₀
-  pub rest : Rest d₀ 0 (words_in k s) d i (words_in (k - i) (drop p s))
+  pub rest : Rest d₀ 0 (words_in k s) d i (words_in (k - i) (drop (8 * i) s))
 
-pub words_start : (s : List ℕ) (k : ℕ) (d : List ℕ) → k ≤ length d → WordsLeft s k d d 0 0
+pub words_start : (s : List ℕ) (k : ℕ) (d : List ℕ) → k ≤ length d → WordsLeft s k d d 0
 words_start s k d h =
     let e : k - 0 ≡ k = omega arith in
     record {
-      place = refl;
       some = omega arith;
       size = refl;
       rest = rw e (rest_start d 0 (words_in k s) (omega (arith, words_length k s)));
@@ -59,21 +59,25 @@ one_word : (s : List ℕ) (k p : ℕ) → words_in (suc k) (drop p s) ≡ (eight
 unfolding words_in
 one_word s k p = rw (eight_here s p, drop-drop 8 p s)
 
-module _ (s : List ℕ) (k : ℕ) (d₀ d : List ℕ) (i p : ℕ) (inv : WordsLeft s k d₀ d i p) where
-  pub words_turn : i < k → k ≤ length d₀ → (x : ℕ) → x ≡ eight_bytes_at s p → WordsLeft s k d₀ (set d i x) (i + 1) (p + 8)
+module _ (s : List ℕ) (k : ℕ) (d₀ d : List ℕ) (i : ℕ) (inv : WordsLeft s k d₀ d i) where
+  pub words_turn : i < k → k ≤ length d₀ → (x : ℕ) → x ≡ eight_bytes_at s (8 * i) → WordsLeft s k d₀ (set d i x) (i + 1)
   words_turn h room x hx =
       let e : k - i ≡ suc (k - (i + 1)) = omega arith in
+      let next : 8 * i + 8 ≡ 8 * (i + 1) = omega arith in
+      let later : List ℕ = words_in (k - (i + 1)) (drop (8 * (i + 1)) s) in
       let put : Put d i (x ∷ []) (set d i x) (i + 1) = put_byte_done d i x (omega (arith, inv.size)) in
-      let left : Rest d₀ 0 (words_in k s) d i ((x ∷ []) ++ words_in (k - (i + 1)) (drop (p + 8) s)) =
-      rw (e, one_word s (k - (i + 1)) p, ← hx) at inv.rest in
-      let r : Rest d₀ 0 (words_in k s) (set d i x) (i + 1) (words_in (k - (i + 1)) (drop (p + 8) s)) =
-      rest_put d₀ 0 (words_in k s) d i (x ∷ []) (words_in (k - (i + 1)) (drop (p + 8) s)) (set d i x) (i + 1) left put in
-      record { place = omega (arith, inv.place); some = omega arith; size = r.size; rest = r }
+      let left : Rest d₀ 0 (words_in k s) d i ((x ∷ []) ++ later) =
+      rw (e, one_word s (k - (i + 1)) (8 * i), ← hx, next) at inv.rest in
+      let r : Rest d₀ 0 (words_in k s) (set d i x) (i + 1) later =
+      rest_put d₀ 0 (words_in k s) d i (x ∷ []) later (set d i x) (i + 1) left put in
+      record { some = omega arith; size = r.size; rest = r }
 
-  pub words_done : k ≤ i → Put d₀ 0 (words_in k s) d i
+  pub words_done : k ≤ i → Put d₀ 0 (words_in k s) d k
   unfolding words_in
-  words_done h = let e : k - i ≡ 0 = omega arith in
-      rest_done d₀ 0 (words_in k s) d i (rw e at inv.rest)
+  words_done h =
+      let e : i ≡ k = omega (arith, inv.some) in
+      let none : k - k ≡ 0 = omega arith in
+      rest_done d₀ 0 (words_in k s) d k (rw (e, none) at inv.rest)
 
 -- `read_readings`
 put_none : (d w : List ℕ) → w ≡ [] → Put d 0 w d 0

@@ -1,12 +1,13 @@
 -- The texts as runs of writes: room for each piece, and all of them written. Assumes nothing.
 use Prim.Native.Nat.{ℕ, ◌≤◌, ◌+◌}
 use mathlib.Core.List.{List, [], ◌∷◌, ◌++◌}
+use mathlib.Core.Path.{◌≡◌}
 use lib.ListN.{length}
-use Rattle.model.specs.Labels.{Tag, Labels}
+use Rattle.model.specs.Labels.{Labels}
 use Rattle.writing.specs.Written.{Put}
 use Rattle.writing.proofs.Written.{Rest, rest_start}
 use Rattle.model.specs.Numerals.{digits, hexadecimal}
-use Rattle.vecop_run.specs.label_text.LabelText.{escaped_all, tag_of, tag_text, tags_text, braced_tags, labels_text}
+use Rattle.vecop_run.specs.label_text.LabelText.{escaped_all, tag_of, tag_text, braced_tags, labels_text}
 use Rattle.writing.proofs.Runs.{piece_room, piece_put, last_room, last_put}
 
 -- `%` and two digits
@@ -78,44 +79,18 @@ module _ (k v : List ℕ) (d : List ℕ) (at : ℕ) (room : at + length ((44 ∷
     pub next_tag_put : (e : List ℕ) (r : ℕ) → Put d₁ o₁ (tag_text (tag_of k v)) e r → Put d at ((44 ∷ []) ++ tag_text (tag_of k v)) e r
     next_tag_put e r q = last_put d at ((44 ∷ []) ++ tag_text (tag_of k v)) d₁ o₁ (tag_text (tag_of k v)) next_tag_left_2 e r q
 
--- tags in braces
-module _ (ts : List Tag) (d : List ℕ) (at : ℕ) (room : at + length (braced_tags ts) ≤ length d) where
-  braced_left_1 : Rest d at (braced_tags ts) d at ((123 ∷ []) ++ ((tags_text ts) ++ (125 ∷ [])))
-  unfolding braced_tags
-  braced_left_1 = rest_start d at (braced_tags ts) room
-
-  pub braced_1 : at + 1 ≤ length d
-  braced_1 = piece_room d at (braced_tags ts) d at (123 ∷ []) ((tags_text ts) ++ (125 ∷ [])) braced_left_1
-
-  module _ (d₁ : List ℕ) (o₁ : ℕ) (p₁ : Put d at (123 ∷ []) d₁ o₁) where
-    braced_left_2 : Rest d at (braced_tags ts) d₁ o₁ ((tags_text ts) ++ (125 ∷ []))
-    braced_left_2 = piece_put d at (braced_tags ts) d at (123 ∷ []) ((tags_text ts) ++ (125 ∷ [])) braced_left_1 d₁ o₁ p₁
-
-    pub braced_2 : o₁ + length (tags_text ts) ≤ length d₁
-    braced_2 = piece_room d at (braced_tags ts) d₁ o₁ (tags_text ts) (125 ∷ []) braced_left_2
-
-    module _ (d₂ : List ℕ) (o₂ : ℕ) (p₂ : Put d₁ o₁ (tags_text ts) d₂ o₂) where
-      braced_left_3 : Rest d at (braced_tags ts) d₂ o₂ (125 ∷ [])
-      braced_left_3 = piece_put d at (braced_tags ts) d₁ o₁ (tags_text ts) (125 ∷ []) braced_left_2 d₂ o₂ p₂
-
-      pub braced_3 : o₂ + 1 ≤ length d₂
-      braced_3 = last_room d at (braced_tags ts) d₂ o₂ (125 ∷ []) braced_left_3
-
-      pub braced_put : (e : List ℕ) (r : ℕ) → Put d₂ o₂ (125 ∷ []) e r → Put d at (braced_tags ts) e r
-      braced_put e r q = last_put d at (braced_tags ts) d₂ o₂ (125 ∷ []) braced_left_3 e r q
-
 -- labels
-module _ (l : Labels) (d : List ℕ) (at : ℕ) (room : at + length (labels_text l) ≤ length d) where
-  labels_left_1 : Rest d at (labels_text l) d at ((escaped_all l.name) ++ (braced_tags l.tags))
+module _ (l : Labels) (x : List ℕ) (hx : x ≡ l.name) (d : List ℕ) (at : ℕ) (room : at + length (labels_text l) ≤ length d) where
+  labels_left_1 : Rest d at (labels_text l) d at (escaped_all x ++ braced_tags l.tags)
   unfolding labels_text
-  labels_left_1 = rest_start d at (labels_text l) room
+  labels_left_1 = rw hx (rest_start d at (labels_text l) room)
 
-  pub labels_1 : at + length (escaped_all l.name) ≤ length d
-  labels_1 = piece_room d at (labels_text l) d at (escaped_all l.name) (braced_tags l.tags) labels_left_1
+  pub labels_1 : at + length (escaped_all x) ≤ length d
+  labels_1 = piece_room d at (labels_text l) d at (escaped_all x) (braced_tags l.tags) labels_left_1
 
-  module _ (d₁ : List ℕ) (o₁ : ℕ) (p₁ : Put d at (escaped_all l.name) d₁ o₁) where
+  module _ (d₁ : List ℕ) (o₁ : ℕ) (p₁ : Put d at (escaped_all x) d₁ o₁) where
     labels_left_2 : Rest d at (labels_text l) d₁ o₁ (braced_tags l.tags)
-    labels_left_2 = piece_put d at (labels_text l) d at (escaped_all l.name) (braced_tags l.tags) labels_left_1 d₁ o₁ p₁
+    labels_left_2 = piece_put d at (labels_text l) d at (escaped_all x) (braced_tags l.tags) labels_left_1 d₁ o₁ p₁
 
     pub labels_2 : o₁ + length (braced_tags l.tags) ≤ length d₁
     labels_2 = last_room d at (labels_text l) d₁ o₁ (braced_tags l.tags) labels_left_2

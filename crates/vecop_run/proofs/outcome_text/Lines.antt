@@ -11,10 +11,12 @@ use lib.Seq.{drop-drop}
 use Rattle.model.specs.Labels.{Labels}
 use Rattle.model.specs.Record.{Decoded, decoded, cut, bad_key, decode}
 use Rattle.fields.proofs.Fields.{more}
-use Rattle.label_records.specs.Records.{refusal, record_answer, decoded_answer}
+use Rattle.label_records.specs.Records.{record_answer, decoded_answer}
 use Rattle.record_tags.specs.Lenient.{labels_of, RecordAt, record_found}
-use Rattle.label_records.specs.declared.Record.{Record}
-use Rattle.label_records.specs.declared.Record.TheVariants.{Ok, Cut, BadKey}
+use Rattle.std.specs.declared.result.Result.{Result}
+use Rattle.std.specs.declared.result.Result.TheVariants.{Ok, Err}
+use Rattle.label_records.specs.declared.RecordFault.{RecordFault}
+use Rattle.label_records.specs.declared.RecordFault.TheVariants.{Cut, BadKey}
 use Rattle.writing.specs.Written.{Put}
 use Rattle.writing.proofs.Written.{Rest, rest_start, rest_done, rest_as}
 use Rattle.vecop_run.specs.outcome_text.Text.{reading_text, line_text, lines_text}
@@ -41,36 +43,30 @@ module _ (p : ℕ) (x y : List ℕ) (k : ℕ) where
   unfolding lines_text
   bad_off e = rw e
 
-is_cut : (size : ℕ) (d : Decoded) → refusal 3 ≡ decoded_answer size d → d ≡ cut
-is_cut size (decoded l rest) h = absurd (let z : ◌≡◌ {A = ℕ} 0 1 = cc in omega arith)
-is_cut size cut h = refl
-is_cut size bad_key h = absurd (let z : ◌≡◌ {A = ℕ} 3 4 = cc in omega arith)
-
-is_bad : (size : ℕ) (d : Decoded) → refusal 4 ≡ decoded_answer size d → d ≡ bad_key
-is_bad size (decoded l rest) h = absurd (let z : ◌≡◌ {A = ℕ} 0 1 = cc in omega arith)
-is_bad size cut h = absurd (let z : ◌≡◌ {A = ℕ} 3 4 = cc in omega arith)
-is_bad size bad_key h = refl
-
 module _ (n p : ℕ) (x y d₀ : List ℕ) (at : ℕ) (d : List ℕ) (o from row left : ℕ) (inv : LinesLeft n p x y d₀ at d o from row left) where
   pub lines_done : left ≤ 0 → Put d₀ at (lines_text n p x y) d o
   unfolding lines_text
   lines_done h = let e : left ≡ 0 = omega arith in
       rest_done d₀ at (lines_text n p x y) d o (rw e at inv.rest)
 
-  module _ (some : 0 < left) (r : Record) (hr : record_answer r ≡ decoded_answer (length x) (decode (drop from x))) where
+  module _ (some : 0 < left) (r : Result ℕ RecordFault) (hr : record_answer r ≡ decoded_answer (length x) (decode (drop from x))) where
     ended : lines_text (suc (left - 1)) p (drop from x) (drop row y) ≡ [] → Put d₀ at (lines_text n p x y) d o
     ended e =
         rest_done d₀ at (lines_text n p x y) d o
         (rest_as d₀ at (lines_text n p x y) d o (lines_text left p (drop from x) (drop row y)) [] inv.rest
         (ap (λ (m : ℕ). lines_text m p (drop from x) (drop row y)) (more left some) ∙ e))
 
-    pub lines_cut : r ≡ Cut → Put d₀ at (lines_text n p x y) d o
-    lines_cut e =
-        ended (cut_off p (drop from x) (drop row y) (left - 1) (is_cut (length x) (decode (drop from x)) (rw e at hr)))
-
-    pub lines_bad : r ≡ BadKey → Put d₀ at (lines_text n p x y) d o
-    lines_bad e =
-        ended (bad_off p (drop from x) (drop row y) (left - 1) (is_bad (length x) (decode (drop from x)) (rw e at hr)))
+    pub lines_stopped : ((next : ℕ) → r ≡ Ok next → ⊥) → Put d₀ at (lines_text n p x y) d o
+    lines_stopped none = go r refl (decode (drop from x)) refl
+      where
+        go : (q : Result ℕ RecordFault) → r ≡ q → (k : Decoded) → decode (drop from x) ≡ k → Put d₀ at (lines_text n p x y) d o
+        go (Ok next) e k ek = absurd (none next e)
+        go (Err f) e cut ek = ended (cut_off p (drop from x) (drop row y) (left - 1) ek)
+        go (Err f) e bad_key ek = ended (bad_off p (drop from x) (drop row y) (left - 1) ek)
+        go (Err Cut) e (decoded l rest) ek =
+            let h = rw (e, ek) at hr in absurd (let z : ◌≡◌ {A = ℕ} 0 1 = cc in omega arith)
+        go (Err BadKey) e (decoded l rest) ek =
+            let h = rw (e, ek) at hr in absurd (let z : ◌≡◌ {A = ℕ} 0 1 = cc in omega arith)
 
     split : left * p ≡ (left - 1) * p + p
     split = ap (λ (m : ℕ). m * p) (more left some) ∙ suc-mul (left - 1) p

@@ -4,11 +4,11 @@ use Rattle.vecop_run.proofs.Parts.{nothing_read, query_order, left_order, right_
 use Rattle.vecop_run.proofs.Parts.{right_short, parts_put}
 use Rattle.vecop_run.proofs.vecop.Goals as goal
 
-pub overflow_add-b : goal.overflow_add-b
-overflow_add-b c = search left_fits
+pub overflow_add-query : goal.overflow_add-query
+overflow_add-query c = search left_fits
 
-pub overflow_add-c : goal.overflow_add-c
-overflow_add-c c = search right_fits
+pub overflow_add-left : goal.overflow_add-left
+overflow_add-left c = search right_fits
 
 pub slice_bounds-put_called-count : goal.slice_bounds-put_called-count
 slice_bounds-put_called-count c = search query_order
@@ -19,20 +19,20 @@ slice_bounds-put_called-start c = search query_order
 pub slice_bounds-put_called-end : goal.slice_bounds-put_called-end
 slice_bounds-put_called-end c = search query_end
 
-pub slice_bounds-put_called-count-in-Three : goal.slice_bounds-put_called-count-in-Three
-slice_bounds-put_called-count-in-Three c = search left_order
+pub slice_bounds-put_called-count-in-Some : goal.slice_bounds-put_called-count-in-Some
+slice_bounds-put_called-count-in-Some c = search left_order
 
-pub slice_bounds-put_called-start-in-Three : goal.slice_bounds-put_called-start-in-Three
-slice_bounds-put_called-start-in-Three c = search left_order
+pub slice_bounds-put_called-start-in-Some : goal.slice_bounds-put_called-start-in-Some
+slice_bounds-put_called-start-in-Some c = search left_order
 
-pub slice_bounds-put_called-end-in-Three : goal.slice_bounds-put_called-end-in-Three
-slice_bounds-put_called-end-in-Three c = search left_end
+pub slice_bounds-put_called-end-in-Some : goal.slice_bounds-put_called-end-in-Some
+slice_bounds-put_called-end-in-Some c = search left_end
 
-pub slice_bounds-put_called-count-in-Three-2 : goal.slice_bounds-put_called-count-in-Three-2
-slice_bounds-put_called-count-in-Three-2 c = search right_order
+pub slice_bounds-put_called-count-in-Some-2 : goal.slice_bounds-put_called-count-in-Some-2
+slice_bounds-put_called-count-in-Some-2 c = search right_order
 
-pub slice_bounds-put_called-start-in-Three-2 : goal.slice_bounds-put_called-start-in-Three-2
-slice_bounds-put_called-start-in-Three-2 c = search right_order
+pub slice_bounds-put_called-start-in-Some-2 : goal.slice_bounds-put_called-start-in-Some-2
+slice_bounds-put_called-start-in-Some-2 c = search right_order
 
 pub put_called-requires-clause-left_len_bound : goal.put_called-requires-clause-left_len_bound
 put_called-requires-clause-left_len_bound c = search (rules, left_short, right_short)
@@ -43,8 +43,8 @@ put_called-requires-clause-right_len_bound c = search (rules, left_short, right_
 pub put_called-requires-clause-max_text_in_bounds : goal.put_called-requires-clause-max_text_in_bounds
 put_called-requires-clause-max_text_in_bounds c = search (rules, left_short, right_short)
 
-pub returns-in-Three : goal.returns-in-Three
-returns-in-Three c = search parts_put
+pub returns-in-Some : goal.returns-in-Some
+returns-in-Some c = search parts_put
 
-pub returns-in-Unreadable : goal.returns-in-Unreadable
-returns-in-Unreadable c = search nothing_read
+pub returns-in-None : goal.returns-in-None
+returns-in-None c = search nothing_read

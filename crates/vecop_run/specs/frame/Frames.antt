@@ -1,5 +1,5 @@
 -- The frame of `vecop`'s input: three parts, each after its length. Assumes nothing.
-use Rattle.std.specs.Prelude.{ℕ, ◌+◌, ◌*◌, ◌-◌, cond, List, [], ◌∷◌, leb, length, take, drop}
+use Rattle.std.specs.Prelude.{ℕ, cond, List, [], ◌∷◌, leb, length, take, drop}
 use Rattle.model.specs.Vector.{four_bytes_at}
 
 -- a part, and what follows it; or a length or a part cut short

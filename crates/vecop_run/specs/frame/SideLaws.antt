@@ -1,5 +1,5 @@
 -- Number 5 as the bytes have it. Assumes nothing.
-use Rattle.std.specs.Prelude.{ℕ, zero, suc, ◌*◌, ◌≡◌, refl, false, List, [], eqb, length, drop}
+use Rattle.std.specs.Prelude.{ℕ, zero, suc, ◌*◌, ◌≡◌, refl, false, List, eqb, length, drop}
 use Rattle.std.proofs.Common.{ap, arith, eq-eqb, ne_eqb}
 use Rattle.model.specs.Lists.{cases}
 use Rattle.vecop_run.specs.frame.Sides.{reading_bytes, reading_count, words_in, other_than, readings_in}

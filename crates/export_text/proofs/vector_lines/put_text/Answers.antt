@@ -3,8 +3,8 @@ use Rattle.export_text.proofs.vector_lines.Sides.{side_some}
 use Rattle.export_text.proofs.vector_lines.Texts.{left_start, text_room, left_turn, left_done}
 use Rattle.export_text.proofs.vector_lines.put_text.Goals as goal
 
-pub overflow_sub-n : goal.overflow_sub-n
-overflow_sub-n c = search side_some
+pub overflow_sub-i-end : goal.overflow_sub-i-end
+overflow_sub-i-end c = search side_some
 
 pub loop-i-init : goal.loop-i-init
 loop-i-init c = search left_start

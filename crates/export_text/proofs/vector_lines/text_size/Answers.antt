@@ -3,8 +3,8 @@ use Rattle.export_text.proofs.vector_lines.Sides.{side_some, side_few, side_posi
 use Rattle.export_text.proofs.vector_lines.Texts.{text_start, text_sum, text_turn, text_done}
 use Rattle.export_text.proofs.vector_lines.text_size.Goals as goal
 
-pub overflow_sub-n : goal.overflow_sub-n
-overflow_sub-n c = search side_some
+pub overflow_sub-i-end : goal.overflow_sub-i-end
+overflow_sub-i-end c = search side_some
 
 pub loop-i-init : goal.loop-i-init
 loop-i-init c = search text_start

@@ -1,12 +1,7 @@
 -- `vector_lines::text_size` meets its contract. Assumes nothing.
-use Prim.Native.Nat.{◌-◌}
-use lib.ListN.{length}
 use Rattle.side_parts.specs.Lent.{shape_of}
 use Rattle.export_text.proofs.vector_lines.Texts.{TextCount}
 use Rattle.export_text.proofs.vector_lines.text_size.Given as goal
 
 abbrev pub invariant-loop-i : goal.invariant-loop-i
 invariant-loop-i l = TextCount (shape_of l.shape) l.shape.points l.array l.at l.rows l.size l.i
-
-abbrev pub decreases-loop-i : goal.decreases-loop-i
-decreases-loop-i l = length l.at - 1 - l.i

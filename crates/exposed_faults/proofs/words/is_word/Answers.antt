@@ -1,22 +1,22 @@
 -- `words::is_word` meets its contract. Assumes nothing.
-use Rattle.exposed_faults.proofs.words.Laws.{word_empty, not_begun}
-use Rattle.exposed_faults.proofs.words.Laws.{follows_start, follows_turn, follows_bad, follows_done}
+use Rattle.std.proofs.Common.{rules, tests}
+use Rattle.std.proofs.lemmas.Iterator.{YieldsList-from_slice}
+use Rattle.std.proofs.lemmas.Iterator.Search.{all_from_yields_List}
+use Rattle.exposed_faults.proofs.words.Laws.{follows, behind_first, is_word-empty, is_word-parts}
 use Rattle.exposed_faults.proofs.words.is_word.Goals as goal
 
-pub returns-then-s-eq0 : goal.returns-then-s-eq0
-returns-then-s-eq0 c = search word_empty
-
-pub loop-i-init : goal.loop-i-init
-loop-i-init c = search follows_start
-
-pub loop-i-preserved : goal.loop-i-preserved
-loop-i-preserved c = search follows_turn
-
-pub returns-else-can_begin-b : goal.returns-else-can_begin-b
-returns-else-can_begin-b c = search follows_bad
-
-pub returns-after-loop-i : goal.returns-after-loop-i
-returns-after-loop-i c = search follows_done
+pub returns-in-empty : goal.returns-in-empty
+returns-in-empty c = search is_word-empty
 
 pub returns-else-can_begin : goal.returns-else-can_begin
-returns-else-can_begin c = search not_begun
+returns-else-can_begin c =
+    let parts = is_word-parts c.args.colon c.args.s.now c.in-len1-up.len_at_least in
+    rw (parts, ← c.can_begin.ensures, c.if-can_begin.false)
+
+pub returns-then-can_begin : goal.returns-then-can_begin
+returns-then-can_begin c =
+    let parts = is_word-parts c.args.colon c.args.s.now c.in-len1-up.len_at_least in
+    let slice = YieldsList-from_slice (behind_first c.args.s.now) cc in
+    let all = all_from_yields_List (follows c.args.colon) _ _ c.all.result c.all.ensures.ran slice
+    (λ x b q k. search (rules, tests)) in
+    rw (parts, ← c.can_begin.ensures, c.if-can_begin.true, all)

@@ -1,9 +1,6 @@
 -- `thousandths::thousandths` meets its contract. Assumes nothing.
-use Rattle.exposed_samples.proofs.thousandths.Laws.{product_small, thousandths_rounded, thousandths_none}
+use Rattle.exposed_samples.proofs.thousandths.Laws.{thousandths_rounded, thousandths_none}
 use Rattle.exposed_samples.proofs.thousandths.thousandths.Goals as goal
-
-pub rounded_by-requires-clause-n_bound : goal.rounded_by-requires-clause-n_bound
-rounded_by-requires-clause-n_bound c = search product_small
 
 pub returns-then-s-lt64 : goal.returns-then-s-lt64
 returns-then-s-lt64 c = search thousandths_rounded

@@ -2,8 +2,5 @@
 
 use Rattle.group_series.proofs.points.put_point.Goals as goal
 
-pub written-requires : goal.written-requires
-written-requires c = tt
-
 pub returns : goal.returns
 returns c = rw c.written.ensures

@@ -5,9 +5,6 @@ use Rattle.reading.proofs.Nan.{not_nan}
 use Rattle.group_series.proofs.running.Readings.{read_nan}
 use Rattle.group_series.proofs.running.float_of.Goals as goal
 
-pub is_missing-requires : goal.is_missing-requires
-is_missing-requires c = tt
-
 pub float_from_bits-result : goal.float_from_bits-result
 float_from_bits-result c = not_nan c.args.x (sym c.is_missing.ensures ∙ c.if-is_missing.false)
 

@@ -7,17 +7,11 @@ use Rattle.key_numbers.proofs.key_lookup.has_key.Goals as goal
 pub same_key-requires-clause-g_value : goal.same_key-requires-clause-g_value
 same_key-requires-clause-g_value c = search (find_hash, rules)
 
-pub same_key-requires-clause-h_value : goal.same_key-requires-clause-h_value
-same_key-requires-clause-h_value c = search (find_hash, rules)
-
 pub returns-then-j-before : goal.returns-then-j-before
 returns-then-j-before c = search has_left
 
 pub same_key-requires-2-clause-g_value : goal.same_key-requires-2-clause-g_value
 same_key-requires-2-clause-g_value c = search (own_hash, rules)
-
-pub same_key-requires-2-clause-h_value : goal.same_key-requires-2-clause-h_value
-same_key-requires-2-clause-h_value c = search (own_hash, rules)
 
 pub returns : goal.returns
 returns c = search has_own

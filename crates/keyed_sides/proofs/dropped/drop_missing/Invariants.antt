@@ -1,11 +1,6 @@
--- `dropped::drop_missing` meets its contract. Assumes nothing.
-use Prim.Native.Nat.{◌-◌}
-use lib.ListN.{length}
+-- `drop_missing` meets its contract. Assumes nothing.
 use Rattle.keyed_sides.proofs.dropped.Dropping.{Dropping}
 use Rattle.keyed_sides.proofs.dropped.drop_missing.Given as goal
 
 abbrev pub invariant-loop-i : goal.invariant-loop-i
 invariant-loop-i l = Dropping l.rows l.p l.initial.keys l.keys l.i
-
-abbrev pub decreases-loop-i : goal.decreases-loop-i
-decreases-loop-i l = length l.initial.keys - l.i

@@ -1,22 +1,13 @@
 -- `eight_missing` meets its contract. Assumes nothing.
-use native.Mathlib.Omega.{arith}
-use Rattle.keyed_sides.proofs.dropped.Missing.{pair_most, eight_told}
+use Rattle.std.proofs.Common.{arith}
+use Rattle.keyed_sides.proofs.dropped.Missing.{gap_starts, gap_turn, gap_ends}
 use Rattle.keyed_sides.proofs.dropped.eight_missing.Goals as goal
 
-pub overflow_add-result : goal.overflow_add-result
-overflow_add-result c = omega (arith, pair_most _ _ _ c.two_gaps-a.ensures, pair_most _ _ _ c.two_gaps-b.ensures)
+pub loop-x-init : goal.loop-x-init
+loop-x-init c = gap_starts c.args.eight.now
 
-pub overflow_add-result-2 : goal.overflow_add-result-2
-overflow_add-result-2 c = omega (arith, pair_most _ _ _ c.two_gaps-c.ensures, pair_most _ _ _ c.two_gaps-d.ensures)
-
-pub overflow_add-result-3 : goal.overflow_add-result-3
-overflow_add-result-3 c = omega (
-  arith,
-  pair_most _ _ _ c.two_gaps-a.ensures,
-  pair_most _ _ _ c.two_gaps-b.ensures,
-  pair_most _ _ _ c.two_gaps-c.ensures,
-  pair_most _ _ _ c.two_gaps-d.ensures,
-)
+pub loop-x-preserved : goal.loop-x-preserved
+loop-x-preserved c = gap_turn _ _ _ c.loop-x.invariant _ c.gap-gap.ensures (omega arith)
 
 pub returns : goal.returns
-returns c = search eight_told
+returns c = gap_ends _ _ _ c.loop-x.invariant (omega arith)

@@ -1,5 +1,4 @@
 -- `ensure_merges` meets its contract. Assumes nothing.
-use mathlib.Core.Path.{sym, ◌∙◌}
 use Rattle.pair_plan.proofs.pair_checks.Checks.{last_there, first_there, last_inside, first_fails, two_fine}
 use Rattle.pair_plan.proofs.pair_checks.ensure_merges.Goals as goal
 
@@ -15,8 +14,5 @@ row_merges-requires-clause-p_in_bounds_2 c = search first_there
 pub returns-then-row_merges-clause-result_value : goal.returns-then-row_merges-clause-result_value
 returns-then-row_merges-clause-result_value c = search two_fine
 
-pub returns-then-are_two-clause-result_value : goal.returns-then-are_two-clause-result_value
-returns-then-are_two-clause-result_value c = search first_fails
-
-pub ensure_several-requires-clause-last_value : goal.ensure_several-requires-clause-last_value
-ensure_several-requires-clause-last_value c = sym c.are_two.ensures ∙ c.if-are_two.false
+pub returns-else-row_merges-clause-result_value : goal.returns-else-row_merges-clause-result_value
+returns-else-row_merges-clause-result_value c = search first_fails

@@ -2,5 +2,5 @@
 use Rattle.pair_plan.proofs.pair_checks.Checks.{single_fine}
 use Rattle.pair_plan.proofs.pair_checks.ensure_single_timeseries.Goals as goal
 
-pub returns-clause-result_value : goal.returns-clause-result_value
-returns-clause-result_value c = search single_fine
+pub returns-else-first-last-clause-result_value : goal.returns-else-first-last-clause-result_value
+returns-else-first-last-clause-result_value c = search single_fine

@@ -1,11 +1,6 @@
 -- `list_codes` meets its contract. Assumes nothing.
-use Prim.Native.Nat.{◌-◌}
-use lib.ListN.{length}
 use Rattle.pair_plan.proofs.pairs.Lists.{Listing}
 use Rattle.pair_plan.proofs.pairs.list_codes.Given as goal
 
 abbrev pub invariant-loop-i : goal.invariant-loop-i
 invariant-loop-i l = Listing l.lkeys l.rkeys l.initial.list l.i l.list l.n
-
-abbrev pub decreases-loop-i : goal.decreases-loop-i
-decreases-loop-i l = length l.lkeys - l.i

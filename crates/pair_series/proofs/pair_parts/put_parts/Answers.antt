@@ -1,7 +1,6 @@
 -- `put_parts` meets its contract. Assumes nothing.
-use borrow.Author.Rules.{scaled_Fits}
-use Rattle.pair_series.proofs.pair_parts.Parts.{parts_start, parts_turn, part_order, part_less}
-use Rattle.pair_series.proofs.pair_parts.Parts.{part_inside, left_inside, right_inside, row_inside}
+use Rattle.pair_series.proofs.pair_parts.Parts.{parts_start, parts_turn, part_end, part_less}
+use Rattle.pair_series.proofs.pair_parts.Parts.{left_inside, right_inside, row_inside}
 use Rattle.pair_series.proofs.pair_parts.Parts.{given_wide, left_alike, right_alike}
 use Rattle.pair_series.proofs.pair_parts.Parts.{left_long, right_long, row_long, left_ends, right_ends, row_ends}
 use Rattle.pair_series.proofs.pair_parts.put_parts.Goals as goal
@@ -9,122 +8,44 @@ use Rattle.pair_series.proofs.pair_parts.put_parts.Goals as goal
 pub loop-from-init : goal.loop-from-init
 loop-from-init c = parts_start _ _ _ _ _ _ _ _
 
-pub part_end-to-requires : goal.part_end-to-requires
-part_end-to-requires c = c.loop-from-test.true
-
-pub offset_bounds-left_dst-from : goal.offset_bounds-left_dst-from
-offset_bounds-left_dst-from c = search scaled_Fits
-
-pub slice_bounds-put_part-count : goal.slice_bounds-put_part-count
-slice_bounds-put_part-count c = part_order _ _ _ c.part_end-to.ensures
-
-pub slice_bounds-put_part-start : goal.slice_bounds-put_part-start
-slice_bounds-put_part-start c = part_order _ _ _ c.part_end-to.ensures
-
-pub slice_bounds-put_part-end : goal.slice_bounds-put_part-end
-slice_bounds-put_part-end c = part_inside _ _ _ c.part_end-to.ensures _ c.requires.left_dst
-
-pub offset_bounds-left_src-from : goal.offset_bounds-left_src-from
-offset_bounds-left_src-from c = search scaled_Fits
-
-pub slice_bounds-put_part-count-in-loop-from : goal.slice_bounds-put_part-count-in-loop-from
-slice_bounds-put_part-count-in-loop-from c = part_order _ _ _ c.part_end-to.ensures
-
-pub slice_bounds-put_part-start-in-loop-from : goal.slice_bounds-put_part-start-in-loop-from
-slice_bounds-put_part-start-in-loop-from c = part_order _ _ _ c.part_end-to.ensures
-
-pub slice_bounds-put_part-end-in-loop-from : goal.slice_bounds-put_part-end-in-loop-from
-slice_bounds-put_part-end-in-loop-from c = part_inside _ _ _ c.part_end-to.ensures _ c.requires.left_src
-
-pub offset_bounds-right_dst-from : goal.offset_bounds-right_dst-from
-offset_bounds-right_dst-from c = search scaled_Fits
-
-pub slice_bounds-put_part-count-in-loop-from-2 : goal.slice_bounds-put_part-count-in-loop-from-2
-slice_bounds-put_part-count-in-loop-from-2 c = part_order _ _ _ c.part_end-to.ensures
-
-pub slice_bounds-put_part-start-in-loop-from-2 : goal.slice_bounds-put_part-start-in-loop-from-2
-slice_bounds-put_part-start-in-loop-from-2 c = part_order _ _ _ c.part_end-to.ensures
-
-pub slice_bounds-put_part-end-in-loop-from-2 : goal.slice_bounds-put_part-end-in-loop-from-2
-slice_bounds-put_part-end-in-loop-from-2 c = part_inside _ _ _ c.part_end-to.ensures _ c.requires.right_dst
-
-pub offset_bounds-right_src-from : goal.offset_bounds-right_src-from
-offset_bounds-right_src-from c = search scaled_Fits
-
-pub slice_bounds-put_part-count-in-loop-from-3 : goal.slice_bounds-put_part-count-in-loop-from-3
-slice_bounds-put_part-count-in-loop-from-3 c = part_order _ _ _ c.part_end-to.ensures
-
-pub slice_bounds-put_part-start-in-loop-from-3 : goal.slice_bounds-put_part-start-in-loop-from-3
-slice_bounds-put_part-start-in-loop-from-3 c = part_order _ _ _ c.part_end-to.ensures
-
-pub slice_bounds-put_part-end-in-loop-from-3 : goal.slice_bounds-put_part-end-in-loop-from-3
-slice_bounds-put_part-end-in-loop-from-3 c = part_inside _ _ _ c.part_end-to.ensures _ c.requires.right_src
-
-pub offset_bounds-left_work-from : goal.offset_bounds-left_work-from
-offset_bounds-left_work-from c = search scaled_Fits
-
-pub slice_bounds-put_part-count-in-loop-from-4 : goal.slice_bounds-put_part-count-in-loop-from-4
-slice_bounds-put_part-count-in-loop-from-4 c = part_order _ _ _ c.part_end-to.ensures
-
-pub slice_bounds-put_part-start-in-loop-from-4 : goal.slice_bounds-put_part-start-in-loop-from-4
-slice_bounds-put_part-start-in-loop-from-4 c = part_order _ _ _ c.part_end-to.ensures
-
 pub slice_bounds-put_part-end-in-loop-from-4 : goal.slice_bounds-put_part-end-in-loop-from-4
-slice_bounds-put_part-end-in-loop-from-4 c = left_inside _ _ _ _ _ _ _ _ _ _ _ _ c.loop-from.invariant c.requires _ c.part_end-to.ensures
-
-pub offset_bounds-right_work-from : goal.offset_bounds-right_work-from
-offset_bounds-right_work-from c = search scaled_Fits
-
-pub slice_bounds-put_part-count-in-loop-from-5 : goal.slice_bounds-put_part-count-in-loop-from-5
-slice_bounds-put_part-count-in-loop-from-5 c = part_order _ _ _ c.part_end-to.ensures
-
-pub slice_bounds-put_part-start-in-loop-from-5 : goal.slice_bounds-put_part-start-in-loop-from-5
-slice_bounds-put_part-start-in-loop-from-5 c = part_order _ _ _ c.part_end-to.ensures
+slice_bounds-put_part-end-in-loop-from-4 c = left_inside _ _ _ _ _ _ _ _ _ _ _ _ c.loop-from.invariant c.requires _ (part_end _ _ _ c.loop-from-test.true c.min-to.ensures)
 
 pub slice_bounds-put_part-end-in-loop-from-5 : goal.slice_bounds-put_part-end-in-loop-from-5
-slice_bounds-put_part-end-in-loop-from-5 c = right_inside _ _ _ _ _ _ _ _ _ _ _ _ c.loop-from.invariant c.requires _ c.part_end-to.ensures
-
-pub offset_bounds-out-from : goal.offset_bounds-out-from
-offset_bounds-out-from c = search scaled_Fits
-
-pub slice_bounds-put_part-count-in-loop-from-6 : goal.slice_bounds-put_part-count-in-loop-from-6
-slice_bounds-put_part-count-in-loop-from-6 c = part_order _ _ _ c.part_end-to.ensures
-
-pub slice_bounds-put_part-start-in-loop-from-6 : goal.slice_bounds-put_part-start-in-loop-from-6
-slice_bounds-put_part-start-in-loop-from-6 c = part_order _ _ _ c.part_end-to.ensures
+slice_bounds-put_part-end-in-loop-from-5 c = right_inside _ _ _ _ _ _ _ _ _ _ _ _ c.loop-from.invariant c.requires _ (part_end _ _ _ c.loop-from-test.true c.min-to.ensures)
 
 pub slice_bounds-put_part-end-in-loop-from-6 : goal.slice_bounds-put_part-end-in-loop-from-6
-slice_bounds-put_part-end-in-loop-from-6 c = row_inside _ _ _ _ _ _ _ _ _ _ _ _ c.loop-from.invariant c.requires _ c.part_end-to.ensures
+slice_bounds-put_part-end-in-loop-from-6 c = row_inside _ _ _ _ _ _ _ _ _ _ _ _ c.loop-from.invariant c.requires _ (part_end _ _ _ c.loop-from-test.true c.min-to.ensures)
 
 pub put_part-requires-clause-left_dst_len : goal.put_part-requires-clause-left_dst_len
 put_part-requires-clause-left_dst_len c = let inv = c.loop-from.invariant in
-    given_wide _ _ _ _ _ _ _ _ _ _ _ _ inv c.requires _ c.part_end-to.ensures _ c.requires.left_dst
+    given_wide _ _ _ _ _ _ _ _ _ _ _ _ inv c.requires _ (part_end _ _ _ c.loop-from-test.true c.min-to.ensures) _ c.requires.left_dst
 
 pub put_part-requires-clause-left_src_len : goal.put_part-requires-clause-left_src_len
 put_part-requires-clause-left_src_len c = let inv = c.loop-from.invariant in
-    given_wide _ _ _ _ _ _ _ _ _ _ _ _ inv c.requires _ c.part_end-to.ensures _ c.requires.left_src
+    given_wide _ _ _ _ _ _ _ _ _ _ _ _ inv c.requires _ (part_end _ _ _ c.loop-from-test.true c.min-to.ensures) _ c.requires.left_src
 
 pub put_part-requires-clause-right_dst_len : goal.put_part-requires-clause-right_dst_len
 put_part-requires-clause-right_dst_len c = let inv = c.loop-from.invariant in
-    given_wide _ _ _ _ _ _ _ _ _ _ _ _ inv c.requires _ c.part_end-to.ensures _ c.requires.right_dst
+    given_wide _ _ _ _ _ _ _ _ _ _ _ _ inv c.requires _ (part_end _ _ _ c.loop-from-test.true c.min-to.ensures) _ c.requires.right_dst
 
 pub put_part-requires-clause-right_src_len : goal.put_part-requires-clause-right_src_len
 put_part-requires-clause-right_src_len c = let inv = c.loop-from.invariant in
-    given_wide _ _ _ _ _ _ _ _ _ _ _ _ inv c.requires _ c.part_end-to.ensures _ c.requires.right_src
+    given_wide _ _ _ _ _ _ _ _ _ _ _ _ inv c.requires _ (part_end _ _ _ c.loop-from-test.true c.min-to.ensures) _ c.requires.right_src
 
 pub put_part-requires-clause-left_work_len : goal.put_part-requires-clause-left_work_len
 put_part-requires-clause-left_work_len c = let inv = c.loop-from.invariant in
-    left_alike _ _ _ _ _ _ _ _ _ _ _ _ inv c.requires _ c.part_end-to.ensures
+    left_alike _ _ _ _ _ _ _ _ _ _ _ _ inv c.requires _ (part_end _ _ _ c.loop-from-test.true c.min-to.ensures)
 
 pub put_part-requires-clause-right_work_len : goal.put_part-requires-clause-right_work_len
 put_part-requires-clause-right_work_len c = let inv = c.loop-from.invariant in
-    right_alike _ _ _ _ _ _ _ _ _ _ _ _ inv c.requires _ c.part_end-to.ensures
+    right_alike _ _ _ _ _ _ _ _ _ _ _ _ inv c.requires _ (part_end _ _ _ c.loop-from-test.true c.min-to.ensures)
 
 pub loop-from-smaller : goal.loop-from-smaller
-loop-from-smaller c = part_less _ _ _ c.part_end-to.ensures
+loop-from-smaller c = part_less _ _ _ (part_end _ _ _ c.loop-from-test.true c.min-to.ensures)
 
 pub loop-from-preserved : goal.loop-from-preserved
-loop-from-preserved c = parts_turn _ _ _ _ _ _ _ _ _ _ _ _ c.loop-from.invariant c.requires _ c.part_end-to.ensures _ _ _
+loop-from-preserved c = parts_turn _ _ _ _ _ _ _ _ _ _ _ _ c.loop-from.invariant c.requires _ (part_end _ _ _ c.loop-from-test.true c.min-to.ensures) _ _ _
     c.put_part.ensures.left_work_after c.put_part.ensures.right_work_after c.put_part.ensures.out_after
 
 pub shape_of-left_work : goal.shape_of-left_work

@@ -1,19 +1,18 @@
 -- `labels_end` meets its contract. Assumes nothing.
-use native.Mathlib.Omega.{arith}
 use Rattle.query.proofs.list_ends.Walks.{walk_starts, walk_cut, walk_empty, walk_turn, walk_ends}
 use Rattle.query.proofs.list_ends.labels_end.Goals as goal
 
-pub loop-left-init : goal.loop-left-init
-loop-left-init c = search walk_starts
+pub loop-init : goal.loop-init
+loop-init c = search walk_starts
 
-pub returns-in_default : goal.returns-in_default
-returns-in_default c = search walk_cut
+pub returns-in_err-label : goal.returns-in_err-label
+returns-in_err-label c = search (walk_cut, c.in_err-label.was)
 
-pub returns-then-start-end : goal.returns-then-start-end
-returns-then-start-end c = walk_empty _ _ _ _ _ c.loop-left.invariant c.loop-left-test.true _ c.field_at.ensures _ _ c.in-At.is (omega arith)
+pub returns-then-label : goal.returns-then-label
+returns-then-label c = search (walk_empty, c.in_ok-label.was)
 
-pub loop-left-preserved : goal.loop-left-preserved
-loop-left-preserved c = search walk_turn
+pub loop-preserved : goal.loop-preserved
+loop-preserved c = search (walk_turn, c.in_ok-label.was)
 
 pub returns : goal.returns
 returns c = search walk_ends

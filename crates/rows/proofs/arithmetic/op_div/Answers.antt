@@ -23,20 +23,11 @@ module _ (a b g : ℕ) (told : g ≡ gap_of a + gap_of b) where
       (λ e. rw e (sym (calculated_gap quotient a b (omega (arith, ltb-true 0 g e)))))
       (λ e. rw e (whole (omega (arith, ltb-false 0 g e))))
 
-pub gaps-g-requires : goal.gaps-g-requires
-gaps-g-requires c = tt
-
 pub solid-requires : goal.solid-requires
 solid-requires c = λ e. let a = c.args in left_solid a.left a.right (omega arith)
 
 pub solid-requires-2 : goal.solid-requires-2
 solid-requires-2 c = λ e. let a = c.args in right_solid a.left a.right (omega arith)
-
-pub written-quotient-requires : goal.written-quotient-requires
-written-quotient-requires c = tt
-
-pub pick-requires : goal.pick-requires
-pick-requires c = tt
 
 pub returns : goal.returns
 returns c = let a = c.args in

@@ -1,26 +1,12 @@
 -- `op_minus` meets its contract. Assumes nothing.
-use mathlib.Core.Path.{sym}
-use native.Mathlib.Omega.{arith}
+use Rattle.std.proofs.Common.{rules, refl}
+use Rattle.std.specs.Float.{binary64}
+use Rattle.std.specs.Float.Ieee.{sub}
 use Rattle.operator.specs.Kinds.{difference}
 use Rattle.model.specs.Reading.{calculated}
-use Rattle.reading.proofs.Nan.{calculated_gap, left_solid, right_solid}
+use Rattle.rows.proofs.Floats.{by_floats}
 use Rattle.rows.proofs.arithmetic.op_minus.Goals as goal
-
-pub gaps-requires : goal.gaps-requires
-gaps-requires c = tt
-
-pub returns-then-gaps-gt0 : goal.returns-then-gaps-gt0
-returns-then-gaps-gt0 c = sym (calculated_gap difference _ _ (omega arith))
-
-pub float_from_bits-left : goal.float_from_bits-left
-float_from_bits-left c = let a = c.args in left_solid a.left a.right (omega arith)
-
-pub float_from_bits-right : goal.float_from_bits-right
-float_from_bits-right c = let a = c.args in right_solid a.left a.right (omega arith)
-
-pub written-requires : goal.written-requires
-written-requires c = tt
 
 pub returns : goal.returns
 unfolding calculated
-returns c = c.written.ensures
+returns c = by_floats _ _ _ _ c.calculated.ensures (sub binary64) (λ x y z p. search rules) difference refl

@@ -1,31 +1,12 @@
 -- `compare_eq` meets its contract. Assumes nothing.
-use mathlib.Core.Path.{sym}
-use native.Mathlib.Omega.{arith}
+use Rattle.std.proofs.Common.{rules}
+use Rattle.std.specs.Float.Ieee.{eq}
 use Rattle.operator.specs.Kinds.{equal}
 use Rattle.model.specs.Reading.{holds}
-use Rattle.reading.proofs.Nan.{left_solid, right_solid}
-use Rattle.rows.proofs.comparisons.Comparing.{equals_there, equals_gap, none, there}
+use Rattle.rows.proofs.comparisons.Comparing.{equals_there, equals_gap}
+use Rattle.rows.proofs.Floats.{by_test}
 use Rattle.rows.proofs.comparisons.compare_eq.Goals as goal
-
-pub gaps-requires : goal.gaps-requires
-gaps-requires c = tt
-
-pub returns-then-gaps-gt0 : goal.returns-then-gaps-gt0
-unfolding holds
-returns-then-gaps-gt0 c = let a = c.args in
-    sym (none a.left a.right (omega arith) a.as_bool equal (equals_gap a.left a.right (omega arith)))
-
-pub float_from_bits-left : goal.float_from_bits-left
-float_from_bits-left c = let a = c.args in left_solid a.left a.right (omega arith)
-
-pub float_from_bits-right : goal.float_from_bits-right
-float_from_bits-right c = let a = c.args in right_solid a.left a.right (omega arith)
-
-pub to_comparison_value-requires : goal.to_comparison_value-requires
-to_comparison_value-requires c = tt
 
 pub returns : goal.returns
 unfolding holds
-returns c = let a = c.args in
-    there a.as_bool equal a.left a.right (omega arith) _ (equals_there a.left a.right (omega arith)) _
-    c.to_comparison_value.ensures
+returns c = by_test _ _ _ _ _ c.compared.ensures eq (λ x y h p. search rules) equal (equals_there _ _) (equals_gap _ _)

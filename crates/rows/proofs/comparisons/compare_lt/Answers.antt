@@ -1,31 +1,12 @@
 -- `compare_lt` meets its contract. Assumes nothing.
-use mathlib.Core.Path.{refl, sym}
-use native.Mathlib.Omega.{arith}
+use Rattle.std.proofs.Common.{rules, refl, arith}
+use Rattle.std.specs.Float.Ieee.{lt}
 use Rattle.operator.specs.Kinds.{less}
 use Rattle.model.specs.Reading.{holds}
-use Rattle.reading.proofs.Nan.{lt_fails, left_solid, right_solid}
-use Rattle.rows.proofs.comparisons.Comparing.{none, there}
+use Rattle.reading.proofs.Nan.{lt_fails}
+use Rattle.rows.proofs.Floats.{by_test}
 use Rattle.rows.proofs.comparisons.compare_lt.Goals as goal
-
-pub gaps-requires : goal.gaps-requires
-gaps-requires c = tt
-
-pub returns-then-gaps-gt0 : goal.returns-then-gaps-gt0
-unfolding holds
-returns-then-gaps-gt0 c = let a = c.args in
-    sym (none a.left a.right (omega arith) a.as_bool less (λ t. lt_fails a.left a.right (omega arith)))
-
-pub float_from_bits-left : goal.float_from_bits-left
-float_from_bits-left c = let a = c.args in left_solid a.left a.right (omega arith)
-
-pub float_from_bits-right : goal.float_from_bits-right
-float_from_bits-right c = let a = c.args in right_solid a.left a.right (omega arith)
-
-pub to_comparison_value-requires : goal.to_comparison_value-requires
-to_comparison_value-requires c = tt
 
 pub returns : goal.returns
 unfolding holds
-returns c = let a = c.args in
-    there a.as_bool less a.left a.right (omega arith) _ refl _
-    c.to_comparison_value.ensures
+returns c = by_test _ _ _ _ _ c.compared.ensures lt (λ x y h p. search rules) less (λ e. refl) (λ h t. lt_fails _ _ (omega arith))

@@ -8,12 +8,6 @@ use Rattle.reading.proofs.Nan.{left_solid, right_solid}
 use Rattle.rows.proofs.comparisons.Comparing.{equals_there, unequal_gap, there}
 use Rattle.rows.proofs.comparisons.compare_neq.Goals as goal
 
-pub gaps-requires : goal.gaps-requires
-gaps-requires c = tt
-
-pub neq_gap-requires : goal.neq_gap-requires
-neq_gap-requires c = tt
-
 pub returns-then-gaps-gt0 : goal.returns-then-gaps-gt0
 returns-then-gaps-gt0 c = let a = c.args in
     c.neq_gap.ensures ∙ unequal_gap a.left a.right (omega arith) a.as_bool
@@ -23,9 +17,6 @@ float_from_bits-left c = let a = c.args in left_solid a.left a.right (omega arit
 
 pub float_from_bits-right : goal.float_from_bits-right
 float_from_bits-right c = let a = c.args in right_solid a.left a.right (omega arith)
-
-pub to_comparison_value-requires : goal.to_comparison_value-requires
-to_comparison_value-requires c = tt
 
 pub returns : goal.returns
 unfolding holds lib.Ieee.ne

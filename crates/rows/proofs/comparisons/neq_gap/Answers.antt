@@ -2,9 +2,6 @@
 use Rattle.rows.proofs.comparisons.Comparing.{gap_fits, by_gap}
 use Rattle.rows.proofs.comparisons.neq_gap.Goals as goal
 
-pub gap-requires : goal.gap-requires
-gap-requires c = tt
-
 pub choose-requires : goal.choose-requires
 choose-requires c = search gap_fits
 

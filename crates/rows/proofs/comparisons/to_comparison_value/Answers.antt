@@ -2,12 +2,6 @@
 use Rattle.rows.proofs.comparisons.Comparing.{as_number, as_reading}
 use Rattle.rows.proofs.comparisons.to_comparison_value.Goals as goal
 
-pub one_or_zero-requires : goal.one_or_zero-requires
-one_or_zero-requires c = tt
-
-pub pick-requires : goal.pick-requires
-pick-requires c = tt
-
 pub returns-then-as_bool : goal.returns-then-as_bool
 returns-then-as_bool c = search as_number
 

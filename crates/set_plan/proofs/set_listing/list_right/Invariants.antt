@@ -1,11 +1,6 @@
 -- `list_right` meets its contract. Assumes nothing.
-use Prim.Native.Nat.{◌-◌}
-use lib.ListN.{length}
 use Rattle.set_plan.proofs.set_listing.Listing.{RightListing}
 use Rattle.set_plan.proofs.set_listing.list_right.Given as goal
 
 abbrev pub invariant-loop-j : goal.invariant-loop-j
 invariant-loop-j l = RightListing l.left_keys l.keys l.n l.initial.list l.r l.j l.list
-
-abbrev pub decreases-loop-j : goal.decreases-loop-j
-decreases-loop-j l = length l.keys - l.j

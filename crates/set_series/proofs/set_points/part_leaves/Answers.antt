@@ -1,20 +1,21 @@
 -- `part_leaves` meets its contract. Assumes nothing.
-use native.Mathlib.Omega.{arith}
-use Rattle.set_series.proofs.Masks.{gap_fits}
-use Rattle.set_series.proofs.set_points.Leaving.{count_starts, count_turn, count_ends}
+use Rattle.std.proofs.Common.{rules, arith, length-append}
+use Rattle.std.proofs.lemmas.Slice.Zip.{zip_turn, zip_end}
+use Rattle.set_series.specs.set_points.Points.{meant, on_reading}
+use Rattle.set_series.proofs.set_points.Leaving.{part_starts, part_turn, part_ends}
 use Rattle.set_series.proofs.set_points.part_leaves.Goals as goal
 
-pub loop-i-init : goal.loop-i-init
-loop-i-init c = search count_starts
+pub loop-x-init : goal.loop-x-init
+loop-x-init c = part_starts (on_reading (meant c.args.rule)) c.args.left.now c.args.right.now
 
-pub overflow_sub-n : goal.overflow_sub-n
-overflow_sub-n c = search gap_fits
-
-pub overflow_add-n : goal.overflow_add-n
-overflow_add-n c = omega (arith, c.loop-i.invariant.few)
-
-pub loop-i-preserved : goal.loop-i-preserved
-loop-i-preserved c = count_turn _ _ _ _ _ c.loop-i.invariant c.requires c.loop-i-test.true _ c.gap_left.ensures
+pub loop-x-preserved : goal.loop-x-preserved
+loop-x-preserved c = let a = c.args in
+    let z = zip_turn a.left.now a.right.now c.loop-x.yielded _ _ c.next.new.self _ (search rules) (search rules) c.loop-x.yielded_by _
+    c.in-Some.is c.next.ensures.steps in
+    simp length-append (part_turn (on_reading (meant a.rule)) _ _ _ _ c.loop-x.invariant z.0 z.1 _ _ _ (z.2 0) (z.3 0) c.gap_left-gap.ensures)
 
 pub returns : goal.returns
-returns c = search count_ends
+returns c = let a = c.args in
+    let z = zip_end a.left.now a.right.now c.loop-x.yielded _ _ c.next.new.self _ (search rules) (search rules) c.loop-x.yielded_by
+    c.in-None.is c.next.ensures.steps in
+    part_ends (on_reading (meant a.rule)) _ _ _ _ c.loop-x.invariant (omega (arith, z, c.requires)) (omega (arith, z, c.requires))

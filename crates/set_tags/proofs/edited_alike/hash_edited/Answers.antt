@@ -1,19 +1,15 @@
 -- `edited_alike::hash_edited` meets its contract. Assumes nothing.
-use Rattle.set_tags.proofs.edited_tags.Found.{edit_spans, edit_fewer}
-use Rattle.set_tags.proofs.edited_alike.Loops.{hash_start, hash_done, hash_turn}
+use Rattle.std.proofs.Common.{ap, ◌∙◌}
+use Rattle.chosen_tags.proofs.Keys.{hash_start, hash_done, hash_one}
+use Rattle.set_tags.specs.edited_tags.Walks.{edited_left}
 use Rattle.set_tags.proofs.edited_alike.hash_edited.Goals as goal
 
-pub loop-sourced-init : goal.loop-sourced-init
-loop-sourced-init c = search hash_start
+pub loop-tag-init : goal.loop-tag-init
+loop-tag-init c = hash_start _ _ (ap edited_left c.into_iter-tag-iterator.ensures.into_iter_gives ∙ c.edited_of-tag-items.ensures)
 
-pub returns-in_default : goal.returns-in_default
-returns-in_default c = search hash_done
+pub loop-tag-preserved : goal.loop-tag-preserved
+loop-tag-preserved c =
+    hash_one _ _ _ c.loop-tag.invariant _ _ c.in-Some.ensures.steps _ c.in-Some.tag.whole _ c.hash_bytes-h.ensures
 
-pub tag_bytes-requires : goal.tag_bytes-requires
-tag_bytes-requires c = search edit_spans
-
-pub loop-sourced-smaller : goal.loop-sourced-smaller
-loop-sourced-smaller c = search edit_fewer
-
-pub loop-sourced-preserved : goal.loop-sourced-preserved
-loop-sourced-preserved c = search hash_turn
+pub returns : goal.returns
+returns c = hash_done _ _ _ c.loop-tag.invariant c.in-None.ensures.steps.0

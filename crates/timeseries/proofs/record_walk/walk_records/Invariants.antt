@@ -1,10 +1,6 @@
 -- `record_walk::walk_records` meets its contract. Assumes nothing.
-use Prim.Native.Nat.{◌-◌}
 use Rattle.timeseries.proofs.record_walk.Walking.{Walking}
 use Rattle.timeseries.proofs.record_walk.walk_records.Given as goal
 
 abbrev pub invariant-loop-i : goal.invariant-loop-i
-invariant-loop-i l = Walking l.array l.n l.initial.at l.at l.i l.p
-
-abbrev pub decreases-loop-i : goal.decreases-loop-i
-decreases-loop-i l = l.n - l.i
+invariant-loop-i l = Walking l.array l.n l.initial.at l.at l.i-counter l.p

@@ -2,8 +2,8 @@
 use Rattle.vecop_run.proofs.label_text.Texts.{labels_1, labels_2, labels_put}
 use Rattle.vecop_run.proofs.label_text.put_labels.Goals as goal
 
-pub put_name-o-requires : goal.put_name-o-requires
-put_name-o-requires c = search labels_1
+pub put_field-o-requires : goal.put_field-o-requires
+put_field-o-requires c = search labels_1
 
 pub put_braced-requires : goal.put_braced-requires
 put_braced-requires c = search labels_2

@@ -9,8 +9,8 @@ overflow_mul-k c = search readings_fit
 pub slice_bounds-put_answer-end : goal.slice_bounds-put_answer-end
 slice_bounds-put_answer-end c = search bytes_measured
 
-pub slice_bounds-put_answer-end-in-Answer : goal.slice_bounds-put_answer-end-in-Answer
-slice_bounds-put_answer-end-in-Answer c = search readings_measured
+pub slice_bounds-put_answer-end-in-Ok : goal.slice_bounds-put_answer-end-in-Ok
+slice_bounds-put_answer-end-in-Ok c = search readings_measured
 
 pub put_answer-requires-clause-readings_in_bounds : goal.put_answer-requires-clause-readings_in_bounds
 put_answer-requires-clause-readings_in_bounds c = search answer_room
@@ -21,8 +21,8 @@ put_answer-requires-clause-points_in_bounds c = search readings_there
 pub put_refusal-requires : goal.put_refusal-requires
 put_refusal-requires c = search refusal_room
 
-pub returns-in-Answer : goal.returns-in-Answer
-returns-in-Answer c = search answer_told
+pub returns-in-Ok : goal.returns-in-Ok
+returns-in-Ok c = search answer_told
 
-pub returns-in-Refusal : goal.returns-in-Refusal
-returns-in-Refusal c = search refusal_told
+pub returns-in-Err : goal.returns-in-Err
+returns-in-Err c = search refusal_told

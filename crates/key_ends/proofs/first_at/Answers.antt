@@ -1,6 +1,0 @@
--- `first_at` meets its contract. Assumes nothing.
-use Rattle.key_ends.proofs.Tables.{first_table}
-use Rattle.key_ends.proofs.first_at.Goals as goal
-
-pub returns-then-k-table : goal.returns-then-k-table
-returns-then-k-table c = search first_table
