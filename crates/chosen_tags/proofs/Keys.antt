@@ -1,6 +1,6 @@
 -- `is_chosen`, and walks of the tags of a key: chosen, compared, and hashed. Assumes nothing.
-use Prim.Native.Nat.{ℕ, suc, ◌≤◌, ◌<◌, ◌+◌}
-use mathlib.Core.Path.{◌≡◌, refl, sym, ap, ◌∙◌}
+use Prim.Native.Nat.{ℕ, ◌≤◌, ◌<◌, ◌+◌}
+use mathlib.Core.Path.{◌≡◌, refl, sym, ◌∙◌}
 use mathlib.Core.List.{List, [], ◌∷◌, ◌++◌}
 use mathlib.Core.Bool.{Bool, true, false, not, ◌&&◌}
 use native.Mathlib.Omega.{arith}
@@ -10,6 +10,7 @@ use lib.Seq.{drop-cons}
 use lib.Dec.{eqb}
 use borrow.Author.Tests.{eqb-true, eqb-false}
 use Rattle.model.specs.Lists.{cases}
+use Rattle.fields.proofs.Bytes.{lengths_differ}
 use Rattle.model.specs.Labels.{Tag, same_bytes, same_tags}
 use Rattle.model.specs.Record.{encode_field, encode_tags}
 use Rattle.model.specs.Edits.{Names, is_listed}
@@ -35,17 +36,6 @@ and_assoc true q r = refl
 and_assoc false q r = refl
 
 -- two tags are the same where their bytes are: each field begins with its length
-
-lengths_differ : (a b : List ℕ) → (length a ≡ length b → ⊥) → same_bytes a b ≡ false
-unfolding same_bytes
-lengths_differ [] [] h = absurd (h refl)
-lengths_differ [] (y ∷ ys) h = refl
-lengths_differ (x ∷ xs) [] h = refl
-lengths_differ (x ∷ xs) (y ∷ ys) h = go (eqb x y) (lengths_differ xs ys (λ e. h (ap suc e)))
-  where
-    go : (t : Bool) → same_bytes xs ys ≡ false → (t && same_bytes xs ys) ≡ false
-    go true e = e
-    go false e = refl
 
 same_append : (x y a b : List ℕ) → length x ≡ length y → same_bytes (x ++ a) (y ++ b) ≡ (same_bytes x y && same_bytes a b)
 unfolding same_bytes

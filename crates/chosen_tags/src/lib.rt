@@ -74,6 +74,8 @@ impl<'a, 'b> Iterator for Chosen<'a, 'b> {
 
     ghost remaining = { item_count chosen_left };
 
+    // Inlined: over a call the iterator and each item would go through memory.
+    #[inline(always)]
     fn next(&mut self) -> Option<Tag<'a>> {
         let bytes = self.tags.bytes;
         match next_chosen(

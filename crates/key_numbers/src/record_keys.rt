@@ -32,6 +32,15 @@ fn same_name(a: &[u8], b: &[u8], named: bool) -> bool
     !named || fields::same_bytes(record_tags::name_of(a), record_tags::name_of(b))
 }
 
+// Whether two records have the same key, compared in full. A call of its own, so that `same_key`, the test of the hashes, stays
+// inlined.
+#[inline(never)]
+fn alike(a: &[u8], b: &[u8], rule: KeyRule) -> bool
+    ensures { result ≡ alike_by rule.entry (labels_of a.now) (labels_of b.now) }
+{
+    same_name(a, b, rule.named) && signature::same_key(a, b, rule.matching, rule.list)
+}
+
 // Whether two records with the hashes g and h of their keys have the same key. The hashes only spare the comparison.
 pub(crate) fn same_key(g: u64, a: &[u8], h: u64, b: &[u8], rule: KeyRule) -> bool
     requires g_value { g ≡ hash_by rule (labels_of a.now) }
@@ -41,5 +50,5 @@ pub(crate) fn same_key(g: u64, a: &[u8], h: u64, b: &[u8], rule: KeyRule) -> boo
     if g != h {
         return false;
     }
-    same_name(a, b, rule.named) && signature::same_key(a, b, rule.matching, rule.list)
+    alike(a, b, rule)
 }

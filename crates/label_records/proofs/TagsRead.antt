@@ -53,8 +53,8 @@ module _ (want : Result ℕ RecordFault) (s : List ℕ) (g : Bool) (k : List ℕ
     tags_cut_value ey =
         sym (inv ∙ rw (left h) (no_value (length s) g k (n - (i + 1)) (drop p s) _ (drop a.end s) (placed s p a.start a.end x hx ex).read (unplaced s a.end y hy ey)))
 
-    pub tags_turn : (b : Span) (r : Bool) → y ≡ Some b → r ≡ may_follow k (take (a.end - a.start) (drop a.start s))
-        → want ≡ tags_judged (length s) (g && r) (take (a.end - a.start) (drop a.start s)) (decode_tags (n - (i + 1)) (drop b.end s))
+    pub tags_turn : (b : Span) (r : Bool) → y ≡ Some b → r ≡ (g && may_follow k (take (a.end - a.start) (drop a.start s)))
+        → want ≡ tags_judged (length s) r (take (a.end - a.start) (drop a.start s)) (decode_tags (n - (i + 1)) (drop b.end s))
     tags_turn b r ey hr =
         inv ∙ ap (λ (m : ℕ). tags_judged (length s) g k (decode_tags m (drop p s))) (left h)
         ∙ rw hr (one_tag (length s) g k (n - (i + 1)) (drop p s) _ _ (drop a.end s) (drop b.end s) (placed s p a.start a.end x hx ex).read

@@ -1,18 +1,18 @@
 // A label record read at a place of the label array, or refused.
 #![tactic(auto)]
 
-ghost use Rattle.std.specs.Prelude.{◌≡◌, true, [], ◌≤◌, length, drop};
+ghost use Rattle.std.specs.Prelude.{◌≡◌, true, ◌&&◌, [], ◌≤◌, length, drop};
 ghost use Rattle.model.specs.Labels.{may_follow};
 ghost use Rattle.model.specs.Record.{decode_tags, decode};
 ghost use Rattle.label_records.specs.Records.{record_answer, decoded_answer, tags_judged};
 
 use operator::Operator;
 
-// Whether a key may follow the key p.
-fn may_follow(p: &[u8], k: &[u8]) -> bool
-    ensures { result ≡ may_follow p.now k.now }
+// Whether a key may follow the key p, where what came before is good. Behind a bad key none is compared.
+fn may_follow(p: &[u8], k: &[u8], good: bool) -> bool
+    ensures { result ≡ (good && may_follow p.now k.now) }
 {
-    fields::is_below(p, k) && !fields::same_bytes(k, &Operator::METRIC_NAME)
+    good && fields::is_below(p, k) && !fields::same_bytes(k, &Operator::METRIC_NAME)
 }
 
 // Why a record is refused: its bytes end before it does, it has too many tags, or its keys don't ascend.
@@ -34,7 +34,7 @@ fn read_tags(s: &[u8], at: usize, n: usize) -> Result<usize, RecordFault>
         let key = fields::field_at(s, p).ok_or(RecordFault::Cut)?;
         let value = fields::field_at(s, key.end).ok_or(RecordFault::Cut)?;
         let bytes = &s[key.start..key.end];
-        good &= may_follow(last, bytes);
+        good = may_follow(last, bytes, good);
         last = bytes;
         p = value.end;
     }

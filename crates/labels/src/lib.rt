@@ -1,15 +1,22 @@
 // Label lists: searched, and which tags a query matches by.
 #![tactic(auto)]
 
+mod long_labels; // a list searched for a label of many bytes
+
 ghost use Rattle.std.specs.Prelude.{◌≡◌};
 ghost use Rattle.model.specs.Edits.{is_listed, is_star};
 ghost use Rattle.labels.specs.Names.{names_of};
 ghost use Rattle.labels.specs.Matchings.{MatchingBy};
 
-// Whether a label is in a list.
+// Whether a label is in a list. A label of few bytes, as most are, is compared with no call in the loop. A call of its own, so
+// that the loops over a record's tags stay small and have their steps inlined.
+#[inline(never)]
 pub fn in_list(list: &[u8], label: &[u8]) -> bool
     ensures { result ≡ is_listed (names_of list.now) label.now }
 {
+    if fields::FEW < label.len() {
+        return long_labels::in_list(list, label);
+    }
     if list.is_empty() {
         return false;
     }
@@ -18,7 +25,7 @@ pub fn in_list(list: &[u8], label: &[u8]) -> bool
         let Some(name) = fields::field_at(list, p) else {
             return false;
         };
-        if fields::same_bytes(&list[name.start..name.end], label) {
+        if fields::same_few(&list[name.start..name.end], label) {
             return true;
         }
         p = name.end;

@@ -35,5 +35,8 @@ pub fn copy_row(dst: &mut [u64], src: &[u64])
     requires { length src.now ≡ length dst.old }
     ensures { dst.new ≡ src.now }
 {
-    dst.copy_from_slice(src);
+    // By index: `copy_from_slice` would need `memmove` from outside the library.
+    for i in 0..dst.len() {
+        dst[i] = src[i];
+    }
 }

@@ -1,28 +1,18 @@
 -- What stands before a place where bytes are written, and what is written once more. Assumes nothing.
-use Prim.Native.Nat.{ℕ, ◌≤◌, ◌+◌, ◌-◌}
+use Prim.Native.Nat.{ℕ, ◌≤◌, ◌<◌, ◌+◌}
 use mathlib.Core.Path.{◌≡◌, sym, ap, ◌∙◌}
 use mathlib.Core.List.{List, ◌++◌}
 use native.Mathlib.Omega.{arith}
 use Rattle.std.proofs.lemmas.List.{drop-take}
-use Rattle.std.proofs.lemmas.Slice.{between_is}
-use lib.ListN.{length, take, drop, length-drop}
-use lib.Seq.{drop-drop, length-take-le, take_at, drop_at, take-append_seam, take-take}
+use lib.ListN.{length, get_or, take, drop, set, length-drop}
+use lib.Seq.{length-take-le, take_at, drop_at, take-append_seam, take-take, get_or-take, get_or-drop}
 use Rattle.writing.specs.Written.{written, Put}
+use Rattle.writing.proofs.Written.{put_turn}
 
 -- n bytes from a place on, all before `at`
 module _ (from n at : ℕ) (h : from + n ≤ at) where
   part : (d : List ℕ) → take n (drop from d) ≡ drop from (take (from + n) (take at d))
   part d = rw (take-take, drop-take)
-
-  -- `put_again`: a and b are what stands before the place and from it on, and w is copied from a to b's start
-  pub put_once_more : (d a b w : List ℕ) → at + n ≤ length d → a ≡ take at d → b ≡ drop at d
-      → w ≡ take (from + n - from) (drop from a) → Put d at (take n (drop from d)) (a ++ (w ++ drop n b)) (at + n)
-  unfolding written
-  put_once_more d a b w g ea eb ew =
-      let long : length (take n (drop from d)) ≡ n = length-take-le n (drop from d) (omega (arith, length-drop from d)) in
-      let same : take (from + n - from) (drop from (take at d)) ≡ take n (drop from d) =
-      between_is (take at d) from (from + n) ∙ sym (part d) in
-      record { out = rw (ew, ea, eb, same, long, drop-drop); next = omega arith }
 
   pub written_before : (d w : List ℕ) → at ≤ length d → take n (drop from (written d at w)) ≡ take n (drop from d)
   unfolding written
@@ -36,6 +26,16 @@ module _ (from n at : ℕ) (h : from + n ≤ at) where
   pub put_before : (d w d' : List ℕ) (r : ℕ) → at ≤ length d → Put d at w d' r
       → take n (drop from d') ≡ take n (drop from d)
   put_before d w d' r g p = rw p.out (written_before d w g)
+
+  -- the loop of `put_again`
+  pub again_turn : (d d' : List ℕ) (i : ℕ) → at + n ≤ length d → i < n → Put d at (take i (drop from d)) d' (at + i)
+      → Put d at (take (i + 1) (drop from d)) (set d' (at + i) (get_or d' (from + i) 0)) (at + (i + 1))
+  again_turn d d' i room k p =
+      let kept : take n (drop from d') ≡ take n (drop from d) = put_before d (take i (drop from d)) d' (at + i) (omega arith) p in
+      let byte : get_or d' (from + i) 0 ≡ get_or (drop from d) i 0 =
+      sym (get_or-drop from d' i 0) ∙ sym (get_or-take n (drop from d') i 0 k) ∙ ap (λ (l : List ℕ). get_or l i 0) kept
+      ∙ get_or-take n (drop from d) i 0 k in
+      rw byte (put_turn d at (drop from d) d' i p n k room (omega (arith, length-drop from d)))
 
 -- what is written stands there
 pub put_stands : (d : List ℕ) (at : ℕ) (w d' : List ℕ) (r : ℕ) → at + length w ≤ length d → Put d at w d' r

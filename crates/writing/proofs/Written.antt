@@ -5,8 +5,8 @@ use mathlib.Core.List.{List, [], ◌∷◌, ◌++◌, append_assoc}
 use native.Mathlib.Omega.{arith}
 use native.Mathlib.Numerals.{add-one}
 use native.Mathlib.Nat.{add-zero}
-use lib.ListN.{length, take, drop, set, length-append, length-drop, length-set, take-append-drop}
-use lib.Seq.{drop-drop, length-take-le, take_at, drop_at, take-suc-set, drop-set-lt, append_snoc}
+use lib.ListN.{length, get_or, take, drop, set, length-append, length-drop, length-set, take-append-drop}
+use lib.Seq.{drop-drop, length-take-le, take_at, drop_at, take-suc, take_all, take-suc-set, drop-set-lt, append_snoc}
 use Rattle.writing.specs.Written.{written, Put}
 
 module _ (d : List ℕ) (at : ℕ) where
@@ -53,6 +53,29 @@ module _ (d : List ℕ) (at : ℕ) where
 
 pub put_byte_done : (d : List ℕ) (at b : ℕ) → at + 1 ≤ length d → Put d at (b ∷ []) (set d at b) (at + 1)
 put_byte_done d at b h = record { out = put_one d at b h; next = refl }
+
+-- a loop that puts the bytes of s one behind another: i of them are put
+module _ (d : List ℕ) (at : ℕ) (s : List ℕ) where
+  pub put_start : (n : ℕ) → at + n ≤ length d → Put d at (take 0 s) d (at + 0)
+  put_start n h = record { out = sym (written_none d at (omega arith)); next = refl }
+
+  module _ (d' : List ℕ) (i : ℕ) (p : Put d at (take i s) d' (at + i)) where
+    pub put_turn : (n : ℕ) → i < n → at + n ≤ length d → i < length s
+        → Put d at (take (i + 1) s) (set d' (at + i) (get_or s i 0)) (at + (i + 1))
+    put_turn n g room h =
+        let b : ℕ = get_or s i 0 in
+        let fits : at + length (take i s ++ (b ∷ [])) ≤ length d = omega (arith, p.next, length-append (take i s) (b ∷ [])) in
+        let size : length d' ≡ length d = ap length p.out ∙ length-written d at (take i s) (omega (arith, p.next)) in
+        record {
+          out = rw (add-one, take-suc s i 0 h, ← written_append d at (take i s) (b ∷ []) fits, ← p.next, ← p.out) (put_one d' (at + i) b (omega (arith, size)));
+          next = omega (arith, length-take-le (i + 1) s (omega arith));
+        }
+
+    pub put_till : (n : ℕ) → i ≤ n → n ≤ i → Put d at (take n s) d' (at + n)
+    put_till n h g = let e : i ≡ n = omega arith in rw e at p
+
+    pub put_all : i ≤ length s → length s ≤ i → Put d at s d' (at + length s)
+    put_all h g = record { out = p.out ∙ ap (written d at) (take_all i s g); next = refl }
 
 -- what is left to write: from d₀ with W at a place, to d with w at q
 pub record Rest (d₀ : List ℕ) (at : ℕ) (W d : List ℕ) (q : ℕ) (w : List ℕ) : Type 0 where

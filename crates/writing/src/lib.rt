@@ -18,9 +18,11 @@ pub fn put_bytes(out: &mut [u8], at: usize, src: &[u8]) -> usize
     requires { at + length src.now ≤ length out.old }
     ensures { Put out.old at src.now out.new result }
 {
-    let end = at + src.len();
-    out[at..end].copy_from_slice(src);
-    end
+    // By index: `copy_from_slice` would need `memmove` from outside the library.
+    for j in 0..src.len() {
+        out[at + j] = src[j];
+    }
+    at + src.len()
 }
 
 // Writes once more what stands at a place before it, and gives the place behind it.
@@ -29,7 +31,9 @@ pub fn put_again(out: &mut [u8], at: usize, from: usize, n: usize) -> usize
     requires n_in_bounds { at + n ≤ length out.old }
     ensures { Put out.old at (take n (drop from out.old)) out.new result }
 {
-    let (before, room) = out.split_at_mut(at);
-    room[..n].copy_from_slice(&before[from..from + n]);
+    // By index: `copy_from_slice` would need `memmove` from outside the library.
+    for i in 0..n {
+        out[at + i] = out[from + i];
+    }
     at + n
 }

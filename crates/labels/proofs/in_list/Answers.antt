@@ -12,8 +12,8 @@ loop-init c = list_start _ _ (search rules)
 pub returns-in_default : goal.returns-in_default
 returns-in_default c = search list_cut
 
-pub returns-then-same_bytes : goal.returns-then-same_bytes
-returns-then-same_bytes c = search list_hit
+pub returns-then-same_few : goal.returns-then-same_few
+returns-then-same_few c = search list_hit
 
 pub loop-preserved : goal.loop-preserved
 loop-preserved c = search list_turn
