@@ -8,8 +8,8 @@ ghost use Rattle.model.specs.Edits.{is_listed, is_star};
 ghost use Rattle.labels.specs.Names.{names_of};
 ghost use Rattle.labels.specs.Matchings.{MatchingBy};
 
-// Whether a label is in a list. A label of few bytes, as most are, is compared with no call in the loop. A call of its own, so
-// that the loops over a record's tags stay small and have their steps inlined.
+// Whether a label is in a list. A label of few bytes (`fields::FEW`) is compared with no call in the loop, a longer one by the
+// library's `==`. A call of its own, so that the loops over a record's tags stay small and have their steps inlined.
 #[inline(never)]
 pub fn in_list(list: &[u8], label: &[u8]) -> bool
     ensures { result ≡ is_listed (names_of list.now) label.now }
